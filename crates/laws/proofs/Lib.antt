@@ -1,0 +1,9 @@
+pub mod Finite
+pub mod Search
+pub mod Elements
+pub mod Sets
+pub mod Strips
+pub mod Shapes
+pub mod Remainders
+pub mod Weigh
+pub mod Only

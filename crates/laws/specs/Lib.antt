@@ -1,0 +1,5 @@
+pub mod Search
+pub mod Elements
+pub mod Units
+pub mod Shapes
+pub mod Weigh

@@ -1,0 +1,1 @@
+// The code tables of source 001, as document 01 fixes them.
