@@ -1,4 +1,5 @@
 pub mod Finite
+pub mod Arms
 pub mod Search
 pub mod Elements
 pub mod Sets

@@ -1,9 +1,15 @@
--- One answer for each input, over the promises themselves: `Learnt` is what a function's contract says of its result.
+-- One answer for each input of this crate's public functions; and the law by which every crate shows it.
+--
+--   only   two results that are both the definition's are the same
+--
 -- Assumes nothing.
 use mathlib.Core.Path.{_≡_, sym, _∙_}
-use borrow.Fn.Kinds as K
+use Rattle.laws.specs.One.{One}
 use Rattle.laws.proofs.index_in.Reads as IndexIn
 use Rattle.laws.proofs.index_in.Kinds as IndexInKinds
 
-pub index-in : (κs : _) (a : K.Dens {n = 1} κs IndexInKinds.ps) (r s : K.resT IndexInKinds.r κs .Denot) (x y : _) → IndexIn.Learnt κs a r x → IndexIn.Learnt κs a s y → r ≡ s
-index-in κs a r s x y h k = h ∙ sym k
+pub only : {A : Type 0} {p q d : A} → p ≡ d → q ≡ d → p ≡ q
+only h k = h ∙ sym k
+
+pub index-in : One 1 IndexInKinds.ps IndexInKinds.r IndexIn.Learnt
+index-in κs a p q x y = only

@@ -4,21 +4,23 @@
 --   first-hit    below the length, the test passes there
 --   first-most   where the test passes, the answer is at or before
 --   index-hit    the same for a number in a list
---   index-own    a number that stands at no two indexes is found at its own
+--   index-own    where the numbers are distinct, each is found at its own index; distinct, by a test
 --   Passed       the loop has passed i entries: `none` at its start, `more` a turn, `here` at a hit, `all` at the end
 --
 -- Assumes nothing.
-use mathlib.Core.Path.{_≡_, refl, sym}
+use mathlib.Core.Path.{_≡_, refl, sym, ap, _∙_}
 use mathlib.Core.Bool.{Bool, true, false}
 use mathlib.Core.List.{List, [], _∷_}
 use Prim.Native.Nat.{ℕ, zero, suc, _+_, _<_, _≤_}
 use native.Mathlib.Omega.{arith}
 use native.Mathlib.Nat.{le-of-suc-le-suc, not-suc-le-zero, zero-add}
 use native.Mathlib.Numerals.{add-one}
+use lib.Dec.{eqb}
 use lib.ListN.{length, getD, drop, drop-of-length-le}
 use lib.Seq.{drop-cons}
 use borrow.Author.Tests.{eqb-true, eq-eqb}
-use Rattle.laws.specs.Search.{pick, first, is, indexIn}
+use Rattle.laws.specs.Search.{pick, first, is, indexIn, Distinct}
+use Rattle.laws.proofs.Finite.{every, every-at}
 
 module _ {A : Type 0} (d : A) (test : A → Bool) where
   le-step : (b : Bool) (n m : ℕ) → n ≤ m → pick b 0 (suc n) ≤ suc m
@@ -68,7 +70,16 @@ module _ {A : Type 0} (d : A) (test : A → Bool) where
 pub index-hit : (xs : List ℕ) (x : ℕ) → indexIn xs x < length xs → getD xs (indexIn xs x) 0 ≡ x
 index-hit xs x h = eqb-true _ x (first-hit 0 (is x) xs h)
 
-pub index-own : (xs : List ℕ) → ((i j : ℕ) → i < length xs → j < length xs → getD xs i 0 ≡ getD xs j 0 → i ≡ j) → (i : ℕ) → i < length xs → indexIn xs (getD xs i 0) ≡ i
+pub index-own : (xs : List ℕ) → Distinct xs → (i : ℕ) → i < length xs → indexIn xs (getD xs i 0) ≡ i
 index-own xs u i h =
     let k : indexIn xs (getD xs i 0) < length xs = omega (arith, first-most 0 (is (getD xs i 0)) xs i h (eq-eqb (getD xs i 0) (getD xs i 0) refl)) in
     u (indexIn xs (getD xs i 0)) i k h (index-hit xs (getD xs i 0) k)
+
+abbrev pub distinct-test : List ℕ → Bool
+distinct-test xs = every 0 (λ i x. eqb (indexIn xs x) i) 0 xs
+
+pub distinct : (xs : List ℕ) → distinct-test xs ≡ true → Distinct xs
+distinct xs t i j h k e =
+    let own : (i : ℕ) → i < length xs → indexIn xs (getD xs i 0) ≡ i
+    = λ i h. eqb-true _ i (every-at 0 (λ i x. eqb (indexIn xs x) i) xs t i h) in
+    sym (own i h) ∙ ap (indexIn xs) e ∙ own j k

@@ -1,17 +1,17 @@
 -- When a set of rows is good, by tests that are computed over the whole set.
 --
---   long-test        each row has n elements
---   own-test         each row is found at its own place, so no two are the same
---   far-test         no two rows differ in exactly one element
---   Level            each row has m modules
---   good-level       a good set, where all rows have one sum: then no two can differ in exactly one element
---   good-far         a good set, by the test of every pair
---   find-row         in a good set each row is found at its own place
+--   row-test        each row has n elements and is found at its own place, so no two are the same
+--   level-test      each row has m modules
+--   far-test        no two rows differ in exactly one element
+--   level           a set passes the second
+--   good-level      a good set, where all rows have one sum: then no two can differ in exactly one element
+--   good-far        a good set, by the test of every pair
+--   find-row        in a good set each row is found at its own place
 --
 -- Assumes nothing.
 use mathlib.Core.Path.{_≡_, refl, sym, ap, _∙_}
 use mathlib.Core.Logic.{_≢_}
-use mathlib.Core.Bool.{Bool, true, not}
+use mathlib.Core.Bool.{Bool, true, _&&_, not}
 use mathlib.Core.List.{List, []}
 use Prim.Native.Nat.{ℕ, _<_}
 use native.Mathlib.Omega.{arith}
@@ -19,16 +19,16 @@ use lib.Dec.{eqb}
 use lib.ListN.{length, getD}
 use borrow.Author.Tests.{eqb-true, eqb-false, not-true}
 use Rattle.laws.specs.Elements.{alike, find, dist, sum}
-use Rattle.laws.specs.Units.{Good}
-use Rattle.laws.proofs.Finite.{every, every-at}
+use Rattle.laws.specs.Units.{Good, Level}
+use Rattle.laws.proofs.Finite.{both-left, both-right, every, every-at}
 use Rattle.laws.proofs.Search.{first-most}
 use Rattle.laws.proofs.Elements.{alike-self, find-hit, sum-far}
 
-abbrev pub long-test : ℕ → List (List ℕ) → Bool
-long-test n k = every [] (λ i r. eqb (length r) n) 0 k
+abbrev pub row-test : ℕ → List (List ℕ) → Bool
+row-test n k = every [] (λ i r. eqb (length r) n && eqb (find k r) i) 0 k
 
-abbrev pub own-test : List (List ℕ) → Bool
-own-test k = every [] (λ i r. eqb (find k r) i) 0 k
+abbrev pub level-test : ℕ → List (List ℕ) → Bool
+level-test m k = every [] (λ i r. eqb (sum r) m) 0 k
 
 abbrev far-from : List (List ℕ) → List ℕ → Bool
 far-from k r = every [] (λ j q. not (eqb (dist r q) 1)) 0 k
@@ -36,15 +36,18 @@ far-from k r = every [] (λ j q. not (eqb (dist r q) 1)) 0 k
 abbrev pub far-test : List (List ℕ) → Bool
 far-test k = every [] (λ i r. far-from k r) 0 k
 
-abbrev pub Level : ℕ → List (List ℕ) → Type 0
-Level m k = (i : ℕ) → i < length k → sum (getD k i []) ≡ m
+pub level : (m : ℕ) (k : List (List ℕ)) → level-test m k ≡ true → Level m k
+level m k t i h = eqb-true _ m (every-at [] (λ i r. eqb (sum r) m) k t i h)
 
-module _ (n : ℕ) (k : List (List ℕ)) (l : long-test n k ≡ true) (o : own-test k ≡ true) where
+module _ (n : ℕ) (k : List (List ℕ)) (t : row-test n k ≡ true) where
+  both : (i : ℕ) → i < length k → (eqb (length (getD k i [])) n && eqb (find k (getD k i [])) i) ≡ true
+  both i h = every-at [] (λ i r. eqb (length r) n && eqb (find k r) i) k t i h
+
   long : (i : ℕ) → i < length k → length (getD k i []) ≡ n
-  long i h = eqb-true _ n (every-at [] (λ i r. eqb (length r) n) k l i h)
+  long i h = eqb-true _ n (both-left _ (eqb (find k (getD k i [])) i) (both i h))
 
   own : (i : ℕ) → i < length k → find k (getD k i []) ≡ i
-  own i h = eqb-true _ i (every-at [] (λ i r. eqb (find k r) i) k o i h)
+  own i h = eqb-true _ i (both-right (eqb (length (getD k i [])) n) _ (both i h))
 
   different : (i j : ℕ) → i < length k → j < length k → getD k i [] ≡ getD k j [] → i ≡ j
   different i j h g e = sym (own i h) ∙ ap (find k) e ∙ own j g

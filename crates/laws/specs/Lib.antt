@@ -3,3 +3,4 @@ pub mod Elements
 pub mod Units
 pub mod Shapes
 pub mod Weigh
+pub mod One

@@ -4,10 +4,13 @@
 --   first     the first index at which a test passes, or the length
 --   is        whether a number is the one sought
 --   indexIn   the first index at which a number stands, or the length
+--   Distinct  no number stands at two indexes
+use mathlib.Core.Path.{_≡_}
 use mathlib.Core.Bool.{Bool, true, false}
 use mathlib.Core.List.{List, [], _∷_}
-use Prim.Native.Nat.{ℕ, suc}
+use Prim.Native.Nat.{ℕ, suc, _<_}
 use lib.Dec.{eqb}
+use lib.ListN.{length, getD}
 
 abbrev pub pick : {A : Type 0} → Bool → A → A → A
 pick true a b = a
@@ -23,3 +26,6 @@ is x y = eqb y x
 
 abbrev pub indexIn : List ℕ → ℕ → ℕ
 indexIn xs x = first (is x) xs
+
+abbrev pub Distinct : List ℕ → Type 0
+Distinct xs = (i j : ℕ) → i < length xs → j < length xs → getD xs i 0 ≡ getD xs j 0 → i ≡ j

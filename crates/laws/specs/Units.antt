@@ -8,6 +8,7 @@
 --   Reading   what is read: the row numbers, or the first element of the first unit that is in no row
 --   read      a shape read: the units are tested left to right, and the first that is in no row ends it
 --   Good      what is asked of a set of rows; All, of every set of a shape
+--   Level     each row of a set has m modules
 use mathlib.Core.Path.{_≡_}
 use mathlib.Core.Logic.{_≢_}
 use mathlib.Core.Bool.{Bool, true, false}
@@ -15,7 +16,7 @@ use mathlib.Core.List.{List, [], _∷_, _++_}
 use Prim.Native.Nat.{ℕ, suc, _+_, _<_}
 use lib.Dec.{ltb}
 use lib.ListN.{length, getD, take, drop}
-use Rattle.laws.specs.Elements.{find, dist}
+use Rattle.laws.specs.Elements.{find, dist, sum}
 
 pub data Kind : Type 0 where
   fixed : List ℕ → Kind
@@ -88,3 +89,6 @@ abbrev pub All : List Kind → Type 0
 All [] = Unit {0}
 All (fixed r ∷ ks) = All ks
 All (free k ∷ ks) = Good (width (free k)) k × All ks
+
+abbrev pub Level : ℕ → List (List ℕ) → Type 0
+Level m k = (i : ℕ) → i < length k → sum (getD k i []) ≡ m

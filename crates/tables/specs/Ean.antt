@@ -1,13 +1,13 @@
 -- EAN-13, EAN-8 and UPC-A: source 001, table 5.2, of which tables 5.3 and 5.4 print a part. 1 is a bar module (document 01:
 -- "where 2.2 of source 001 says the reverse, the table decides").
 --
---   table52      a line to a digit: the parities of D2 to D7 where D1 is that digit, and its three patterns
---   patterns     the three sets of ten: left odd, left even, right, by set (0, 1, 2) and digit
---   parities     by D1: six bits, D2's the highest; 0 is odd and 1 is even, the number of the set
---   pattern      the pattern of a set and a digit, 0 past the table
---   foundSet     the set of a pattern, 3 where no set has it; foundDigit, its digit there
---   parity       the parities of a first digit, 0 past 9
---   foundFirst   the first digit of parities, 10 where none has them
+--   table52         a line to a digit: the parities of D2 to D7 where D1 is that digit, and its three patterns
+--   patterns        the three sets of ten: left odd, left even, right, by set (0, 1, 2) and digit
+--   parities        by D1: six bits, D2's the highest; 0 is odd and 1 is even, the number of the set
+--   patternOf       the pattern of a set and a digit, 0 past the table
+--   foundPattern    the set of a pattern and its digit there; set 3 and digit 0 where no set has it
+--   paritiesOf      the parities of a first digit, 0 past 9
+--   firstDigit      the first digit of parities, 10 where none has them
 --   oddRows, evenRows, rightRows, leftRows    the sets as elements; EAN-13's left units come from twenty rows
 --   guard, centre                             the guards 101 and the centre 01010
 use mathlib.Core.Bool.{Bool}
@@ -18,6 +18,7 @@ use Prim.Native.String.{String}
 use lib.Dec.{eqb, ltb}
 use lib.ListN.{getD}
 use Rattle.laws.specs.Search.{pick, first, indexIn}
+use Rattle.tables.specs.declared.ean.SetDigit.{SetDigit}
 use Rattle.tables.specs.Bits.{runs, number}
 use Rattle.tables.specs.Printed.{text}
 
@@ -53,24 +54,24 @@ even letter = pick (eqb letter (code "E")) 1 0
 unfoldable pub parities : List ℕ
 parities = map (λ (l : Line). number (map even (l .parities))) table52
 
-unfoldable pub pattern : ℕ → ℕ → ℕ
-pattern set digit = getD (getD patterns set []) digit 0
+unfoldable pub patternOf : ℕ → ℕ → ℕ
+patternOf set digit = getD (getD patterns set []) digit 0
 
 -- whether one of ten patterns is p
 abbrev pub among : ℕ → List ℕ → Bool
 among p ten = ltb (indexIn ten p) 10
 
-unfoldable pub foundSet : ℕ → ℕ
-foundSet p = first (among p) patterns
+abbrev pub setOf : ℕ → ℕ
+setOf p = first (among p) patterns
 
-unfoldable pub foundDigit : ℕ → ℕ
-foundDigit p = indexIn (getD patterns (foundSet p) []) p
+unfoldable pub foundPattern : ℕ → SetDigit
+foundPattern p = record { set = setOf p; digit = indexIn (getD patterns (setOf p) []) p }
 
-unfoldable pub parity : ℕ → ℕ
-parity d = getD parities d 0
+unfoldable pub paritiesOf : ℕ → ℕ
+paritiesOf d = getD parities d 0
 
-unfoldable pub foundFirst : ℕ → ℕ
-foundFirst p = indexIn parities p
+unfoldable pub firstDigit : ℕ → ℕ
+firstDigit p = indexIn parities p
 
 unfoldable pub oddRows : List (List ℕ)
 oddRows = map (runs 7) (getD patterns 0 [])

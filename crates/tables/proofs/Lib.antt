@@ -1,0 +1,6 @@
+pub mod Wide
+pub mod Patterns
+pub mod Rules
+pub mod Good
+pub mod FullAscii
+pub mod Only

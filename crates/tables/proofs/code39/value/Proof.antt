@@ -1,0 +1,34 @@
+-- `value` gives table 4.3: each arm of the match is one test over the bytes that it takes.
+-- Assumes nothing.
+use borrow.Author.Needs.{needs}
+use mathlib.Core.Path.{refl}
+use mathlib.Core.List.{List, [], _∷_}
+use Prim.Native.Nat.{ℕ, _+_, _-_}
+use native.Mathlib.Omega.{arith}
+use Rattle.laws.proofs.Arms.{agree}
+use Rattle.tables.specs.Code39.{chars39, value39}
+use Rattle.tables.proofs.code39.value.Statement.{statement}
+use Rattle.tables.proofs.code39.value.Tie as tie
+
+-- the single characters, the last arm first
+abbrev keys : List ℕ
+keys = 37 ∷ 43 ∷ 47 ∷ 36 ∷ 32 ∷ 46 ∷ 45 ∷ []
+
+pub value-spec : {M : Type 1} → statement M
+value-spec =
+    tie.close
+    (tie.spec
+    (λ c. omega (arith, agree keys 45 13 (λ b. 48 - b) (λ b. 0) refl _ (c .before .if1 .left) (c .if2 .taken) (c .before .before .match .rest)))
+    (λ c. omega (arith, c .if4 .taken))
+    (λ c. unfold value39 chars39 in rw (c .match .keys1))
+    (λ c. unfold value39 chars39 in rw (c .match .keys2))
+    (λ c. unfold value39 chars39 in rw (c .match .keys3))
+    (λ c. unfold value39 chars39 in rw (c .match .keys4))
+    (λ c. unfold value39 chars39 in rw (c .match .keys5))
+    (λ c. unfold value39 chars39 in rw (c .match .keys6))
+    (λ c. unfold value39 chars39 in rw (c .match .keys7))
+    (λ c. unfold value39 chars39 in agree keys 45 13 (λ b. b - 48) value39 refl _ (c .before .if1 .left) (c .if2 .taken) (c .before .before .match .rest))
+    (λ c. unfold value39 chars39 in agree [] 65 26 (λ b. b - 65 + 10) value39 refl _ (c .before .if3 .left) (c .if4 .taken) tt)
+    (λ c. unfold value39 chars39 in agree keys 0 45 (λ b. 43) value39 refl _ (omega arith) (c .if1 .taken) (c .before .match .rest))
+    (λ c. unfold value39 chars39 in agree [] 58 7 (λ b. 43) value39 refl _ (c .before .if2 .left) (c .if3 .taken) tt)
+    (λ c. unfold value39 chars39 in agree [] 91 165 (λ b. 43) value39 refl _ (c .if4 .left) (search needs) tt))

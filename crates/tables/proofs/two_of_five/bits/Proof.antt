@@ -1,0 +1,20 @@
+-- `bits` gives the table's codes: the constant computes to the definition, and past both there is 0.
+-- Assumes nothing.
+use mathlib.Core.Path.{refl, sym}
+use native.Mathlib.Omega.{arith}
+use lib.ListN.{List·getD-eq-default}
+use Rattle.tables.specs.TwoOfFive.{bits25, codes25, table44}
+use borrow.Author.Needs.{needs}
+use Rattle.tables.proofs.two_of_five.bits.Statement.{statement}
+use Rattle.tables.proofs.two_of_five.bits.Tie as tie
+
+returns : tie.Need-returns
+unfolding bits25 codes25 table44
+returns c = refl
+
+returns-2 : tie.Need-returns-2
+unfolding bits25 codes25 table44
+returns-2 c = sym (List·getD-eq-default codes25 0 {n = c .before .args .value} (omega arith))
+
+pub bits-spec : {M : Type 1} → statement M
+bits-spec = tie.close (tie.spec (λ c. search needs) (λ c. search needs) returns returns-2)
