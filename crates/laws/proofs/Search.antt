@@ -3,7 +3,7 @@
 --   first-le     the answer is at most the length
 --   first-hit    below the length, the test passes there
 --   first-most   where the test passes, the answer is at or before
---   index-hit    the same for a number in a list
+--   index-below, index-hit    the same for a number in a list
 --   index-own    where the numbers are distinct, each is found at its own index; distinct, by a test
 --   Passed       the loop has passed i entries: `none` at its start, `more` a turn, `here` at a hit, `all` at the end
 --
@@ -67,10 +67,16 @@ module _ {A : Type 0} (d : A) (test : A → Bool) where
     pub all : (i : ℕ) → length xs ≤ i → Passed i → i ≡ first test xs
     all i h p = let q = rw (drop-of-length-le xs h) at (p .rest) in omega (arith, q)
 
+pub index-below : (xs : List ℕ) (x r n : ℕ) → r ≡ indexIn xs x → length xs < n → r < n
+unfolding indexIn
+index-below xs x r n e h = omega (arith, first-le 0 (is x) xs)
+
 pub index-hit : (xs : List ℕ) (x : ℕ) → indexIn xs x < length xs → getD xs (indexIn xs x) 0 ≡ x
+unfolding indexIn
 index-hit xs x h = eqb-true _ x (first-hit 0 (is x) xs h)
 
 pub index-own : (xs : List ℕ) → Distinct xs → (i : ℕ) → i < length xs → indexIn xs (getD xs i 0) ≡ i
+unfolding indexIn
 index-own xs u i h =
     let k : indexIn xs (getD xs i 0) < length xs = omega (arith, first-most 0 (is (getD xs i 0)) xs i h (eq-eqb (getD xs i 0) (getD xs i 0) refl)) in
     u (indexIn xs (getD xs i 0)) i k h (index-hit xs (getD xs i 0) k)

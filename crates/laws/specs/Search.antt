@@ -24,7 +24,7 @@ first test (x ∷ xs) = let n = first test xs in pick (test x) 0 (suc n)
 abbrev pub is : ℕ → ℕ → Bool
 is x y = eqb y x
 
-abbrev pub indexIn : List ℕ → ℕ → ℕ
+unfoldable pub indexIn : List ℕ → ℕ → ℕ
 indexIn xs x = first (is x) xs
 
 abbrev pub Distinct : List ℕ → Type 0

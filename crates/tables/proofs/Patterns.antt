@@ -42,7 +42,7 @@ module _ (p set digit : ℕ) (h : set < 3) (e : digit ≡ indexIn (getD patterns
       rw e (ap (λ (k : ℕ). in-set k p) f)
 
 pub set-none : (p set : ℕ) → set ≤ 3 → 3 ≤ set → Searched p set → record { set = 3; digit = 0 } ≡ foundPattern p
-unfolding foundPattern
+unfolding foundPattern indexIn
 set-none p set h l s =
     let f : 3 ≡ setOf p = omega (arith, all [] (among p) patterns set (omega (arith, three)) s) in
     let none : getD patterns 3 [] ≡ [] = List·getD-eq-default patterns [] {n = 3} (omega (arith, three)) in

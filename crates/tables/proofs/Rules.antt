@@ -14,7 +14,7 @@ use mathlib.Core.Path.{_≡_, refl}
 use Prim.Native.Nat.{ℕ, zero, suc, _+_, _*_, _-_, _^_, _<_}
 use lib.Dec.{ltb}
 use lib.ListN.{length}
-use Rattle.laws.specs.Search.{pick, Distinct}
+use Rattle.laws.specs.Search.{pick, indexIn, Distinct}
 use Rattle.laws.specs.Elements.{sum}
 use Rattle.laws.proofs.Finite.{line, grid}
 use Rattle.laws.proofs.Search.{distinct}
@@ -67,35 +67,35 @@ even-odd = line 10 (patternOf 1) (λ d. mirror 7 (turned (patternOf 0 d))) refl
 -- ---- nothing stands twice
 
 pub distinct-chars39 : Distinct chars39
-unfolding chars39
+unfolding chars39 indexIn
 distinct-chars39 = distinct chars39 refl
 
 pub distinct-codes39 : Distinct codes39
-unfolding codes39 chars39 table42
+unfolding codes39 chars39 table42 indexIn
 distinct-codes39 = distinct codes39 refl
 
 pub distinct-chars-codabar : Distinct charsCodabar
-unfolding charsCodabar table41
+unfolding charsCodabar table41 indexIn
 distinct-chars-codabar = distinct charsCodabar refl
 
 pub distinct-codes-codabar : Distinct codesCodabar
-unfolding codesCodabar table41
+unfolding codesCodabar table41 indexIn
 distinct-codes-codabar = distinct codesCodabar refl
 
 pub distinct-chars-digit : Distinct charsDigit
-unfolding charsDigit table44
+unfolding charsDigit table44 indexIn
 distinct-chars-digit = distinct charsDigit refl
 
 pub distinct-codes25 : Distinct codes25
-unfolding codes25 table44
+unfolding codes25 table44 indexIn
 distinct-codes25 = distinct codes25 refl
 
 pub distinct-parities : Distinct parities
-unfolding parities table52
+unfolding parities table52 indexIn
 distinct-parities = distinct parities refl
 
 pub found-own : (s d : ℕ) → s < 3 → d < 10 → (foundPattern (patternOf s d) .set ≡ s) × (foundPattern (patternOf s d) .digit ≡ d)
-unfolding foundPattern patternOf patterns table52
+unfolding foundPattern patternOf patterns table52 indexIn
 found-own s d h k = (
   grid 3 10 (λ s d. foundPattern (patternOf s d) .set) (λ s d. s) refl s d h k,
   grid 3 10 (λ s d. foundPattern (patternOf s d) .digit) (λ s d. d) refl s d h k,

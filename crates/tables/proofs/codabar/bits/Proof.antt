@@ -8,13 +8,11 @@ use borrow.Author.Needs.{needs}
 use Rattle.tables.proofs.codabar.bits.Statement.{statement}
 use Rattle.tables.proofs.codabar.bits.Tie as tie
 
-returns : tie.Need-returns
-unfolding bitsCodabar codesCodabar table41
-returns c = refl
-
-returns-2 : tie.Need-returns-2
-unfolding bitsCodabar codesCodabar table41
-returns-2 c = sym (List·getD-eq-default codesCodabar 0 {n = c .before .args .value} (omega arith))
-
 pub bits-spec : {M : Type 1} → statement M
-bits-spec = tie.close (tie.spec (λ c. search needs) (λ c. search needs) returns returns-2)
+bits-spec =
+    tie.close
+    (tie.spec
+    (λ c. search needs)
+    (λ c. search needs)
+    (λ c. unfold bitsCodabar codesCodabar table41 in refl)
+    (λ c. unfold bitsCodabar codesCodabar table41 in sym (List·getD-eq-default codesCodabar 0 {n = c .before .args .value} (omega arith))))

@@ -8,13 +8,10 @@ use borrow.Author.Needs.{needs}
 use Rattle.tables.proofs.codabar.byte.Statement.{statement}
 use Rattle.tables.proofs.codabar.byte.Tie as tie
 
-returns : tie.Need-returns
-unfolding byteCodabar charsCodabar table41
-returns c = refl
-
-returns-2 : tie.Need-returns-2
-unfolding byteCodabar charsCodabar table41
-returns-2 c = sym (List·getD-eq-default charsCodabar 0 {n = c .before .args .value} (omega arith))
-
 pub byte-spec : {M : Type 1} → statement M
-byte-spec = tie.close (tie.spec (λ c. search needs) returns returns-2)
+byte-spec =
+    tie.close
+    (tie.spec
+    (λ c. search needs)
+    (λ c. unfold byteCodabar charsCodabar table41 in refl)
+    (λ c. unfold byteCodabar charsCodabar table41 in sym (List·getD-eq-default charsCodabar 0 {n = c .before .args .value} (omega arith))))

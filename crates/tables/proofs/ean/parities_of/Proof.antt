@@ -8,13 +8,11 @@ use borrow.Author.Needs.{needs}
 use Rattle.tables.proofs.ean.parities_of.Statement.{statement}
 use Rattle.tables.proofs.ean.parities_of.Tie as tie
 
-returns : tie.Need-returns
-unfolding paritiesOf parities table52
-returns c = refl
-
-returns-2 : tie.Need-returns-2
-unfolding paritiesOf parities table52
-returns-2 c = sym (List·getD-eq-default parities 0 {n = c .before .args .first} (omega arith))
-
 pub parities-of-spec : {M : Type 1} → statement M
-parities-of-spec = tie.close (tie.spec (λ c. search needs) (λ c. search needs) returns returns-2)
+parities-of-spec =
+    tie.close
+    (tie.spec
+    (λ c. search needs)
+    (λ c. search needs)
+    (λ c. unfold paritiesOf parities table52 in refl)
+    (λ c. unfold paritiesOf parities table52 in sym (List·getD-eq-default parities 0 {n = c .before .args .first} (omega arith))))

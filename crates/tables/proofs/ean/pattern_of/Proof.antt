@@ -10,19 +10,14 @@ use borrow.Author.Needs.{needs}
 use Rattle.tables.proofs.ean.pattern_of.Statement.{statement}
 use Rattle.tables.proofs.ean.pattern_of.Tie as tie
 
-returns : tie.Need-returns
-unfolding patternOf patterns table52
-returns c = refl
-
-returns-2 : tie.Need-returns-2
-unfolding patternOf
-returns-2 c = sym (List·getD-eq-default (getD patterns (c .before .before .args .set) []) 0 {n = c .before .before .args .digit} (omega (arith, ten (c .before .before .args .set) (c .before .if1 .taken))))
-
-returns-3 : tie.Need-returns-3
-unfolding patternOf patterns table52
-returns-3 c = rw (List·getD-eq-default patterns [] {n = c .before .args .set} (omega arith))
-
 pub pattern-of-spec : {M : Type 1} → statement M
 pattern-of-spec =
     tie.close
-    (tie.spec (λ c. search needs) (λ c. search needs) (λ c. search needs) (λ c. search needs) returns returns-2 returns-3)
+    (tie.spec
+    (λ c. search needs)
+    (λ c. search needs)
+    (λ c. search needs)
+    (λ c. search needs)
+    (λ c. unfold patternOf patterns table52 in refl)
+    (λ c. unfold patternOf in sym (List·getD-eq-default (getD patterns (c .before .before .args .set) []) 0 {n = c .before .before .args .digit} (omega (arith, ten (c .before .before .args .set) (c .before .if1 .taken)))))
+    (λ c. unfold patternOf patterns table52 in rw (List·getD-eq-default patterns [] {n = c .before .args .set} (omega arith))))

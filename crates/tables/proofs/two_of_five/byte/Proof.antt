@@ -11,13 +11,10 @@ use borrow.Author.Needs.{needs}
 use Rattle.tables.proofs.two_of_five.byte.Statement.{statement}
 use Rattle.tables.proofs.two_of_five.byte.Tie as tie
 
-returns : tie.Need-returns
-unfolding byteDigit charsDigit table44
-returns c = line 10 (λ d. 48 + d) byteDigit refl _ (c .if1 .taken)
-
-returns-2 : tie.Need-returns-2
-unfolding byteDigit charsDigit table44
-returns-2 c = sym (List·getD-eq-default charsDigit 0 {n = c .before .args .value} (omega arith))
-
 pub byte-spec : {M : Type 1} → statement M
-byte-spec = tie.close (tie.spec (λ c. search needs) returns returns-2)
+byte-spec =
+    tie.close
+    (tie.spec
+    (λ c. search needs)
+    (λ c. unfold byteDigit charsDigit table44 in line 10 (λ d. 48 + d) byteDigit refl _ (c .if1 .taken))
+    (λ c. unfold byteDigit charsDigit table44 in sym (List·getD-eq-default charsDigit 0 {n = c .before .args .value} (omega arith))))
