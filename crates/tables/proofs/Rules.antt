@@ -6,7 +6,7 @@
 --   four-and-seven   EAN and UPC: every pattern has four elements and seven modules
 --   right-odd        the right set is the odd set with bars and spaces exchanged
 --   even-odd         the even set is that, read from its other end
---   distinct-..      no character, no code and no parities stand twice in their table, so searches undo lookups
+--   distinct-parities    no parities stand twice, so searches undo lookups
 --   found-own        nor do patterns: each is found in its own set at its own digit
 --
 -- Assumes nothing.
@@ -19,24 +19,25 @@ use Rattle.laws.specs.Elements.{sum}
 use Rattle.laws.proofs.Finite.{line, grid}
 use Rattle.laws.proofs.Search.{distinct}
 use Rattle.tables.specs.Bits.{bit, ones, runs}
-use Rattle.tables.specs.Code39.{table42, chars39, codes39, bits39}
-use Rattle.tables.specs.Codabar.{table41, charsCodabar, codesCodabar, bitsCodabar}
-use Rattle.tables.specs.TwoOfFive.{table44, charsDigit, codes25, bits25}
+use Rattle.tables.specs.Alphabet.{bitsOf}
+use Rattle.tables.specs.Code39.{table42, chars39, alphabet39}
+use Rattle.tables.specs.Codabar.{table41, alphabetCodabar}
+use Rattle.tables.specs.TwoOfFive.{table44, alphabetDigits}
 use Rattle.tables.specs.Ean.{table52, patterns, patternOf, foundPattern, parities}
 
 -- ---- wide elements, elements, modules
 
-pub three-wide : (v : ℕ) → v < 44 → ones 9 (bits39 v) ≡ 3
-unfolding bits39 codes39 chars39 table42
-three-wide = line 44 (λ v. ones 9 (bits39 v)) (λ v. 3) refl
+pub three-wide : (v : ℕ) → v < 44 → ones 9 (bitsOf alphabet39 v) ≡ 3
+unfolding bitsOf alphabet39 chars39 table42
+three-wide = line 44 (λ v. ones 9 (bitsOf alphabet39 v)) (λ v. 3) refl
 
-pub two-wide : (d : ℕ) → d < 10 → ones 5 (bits25 d) ≡ 2
-unfolding bits25 codes25 table44
-two-wide = line 10 (λ d. ones 5 (bits25 d)) (λ d. 2) refl
+pub two-wide : (d : ℕ) → d < 10 → ones 5 (bitsOf alphabetDigits d) ≡ 2
+unfolding bitsOf alphabetDigits table44
+two-wide = line 10 (λ d. ones 5 (bitsOf alphabetDigits d)) (λ d. 2) refl
 
-pub two-classes : (v : ℕ) → v < 20 → ones 7 (bitsCodabar v) ≡ pick (ltb v 12) 2 3
-unfolding bitsCodabar codesCodabar table41
-two-classes = line 20 (λ v. ones 7 (bitsCodabar v)) (λ v. pick (ltb v 12) 2 3) refl
+pub two-classes : (v : ℕ) → v < 20 → ones 7 (bitsOf alphabetCodabar v) ≡ pick (ltb v 12) 2 3
+unfolding bitsOf alphabetCodabar table41
+two-classes = line 20 (λ v. ones 7 (bitsOf alphabetCodabar v)) (λ v. pick (ltb v 12) 2 3) refl
 
 pub four-and-seven : (s d : ℕ) → s < 3 → d < 10 → (length (runs 7 (patternOf s d)) ≡ 4) × (sum (runs 7 (patternOf s d)) ≡ 7)
 unfolding patternOf patterns table52
@@ -65,30 +66,6 @@ unfolding patternOf patterns table52
 even-odd = line 10 (patternOf 1) (λ d. mirror 7 (turned (patternOf 0 d))) refl
 
 -- ---- nothing stands twice
-
-pub distinct-chars39 : Distinct chars39
-unfolding chars39 indexIn
-distinct-chars39 = distinct chars39 refl
-
-pub distinct-codes39 : Distinct codes39
-unfolding codes39 chars39 table42 indexIn
-distinct-codes39 = distinct codes39 refl
-
-pub distinct-chars-codabar : Distinct charsCodabar
-unfolding charsCodabar table41 indexIn
-distinct-chars-codabar = distinct charsCodabar refl
-
-pub distinct-codes-codabar : Distinct codesCodabar
-unfolding codesCodabar table41 indexIn
-distinct-codes-codabar = distinct codesCodabar refl
-
-pub distinct-chars-digit : Distinct charsDigit
-unfolding charsDigit table44 indexIn
-distinct-chars-digit = distinct charsDigit refl
-
-pub distinct-codes25 : Distinct codes25
-unfolding codes25 table44 indexIn
-distinct-codes25 = distinct codes25 refl
 
 pub distinct-parities : Distinct parities
 unfolding parities table52 indexIn

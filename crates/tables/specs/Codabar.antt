@@ -1,18 +1,13 @@
 -- Codabar: source 001, table 4.1, without the aliases T, N, *, E and the small letters, which document 01 refuses.
 --
---   table41         the seven-bit codes, in the order in which the source prints them: by value from 0 on. The first 16 are
---                   the inner characters, the other four the letters that start and stop
---   valueCodabar    the value of a byte, 20 where it is none of the 20
---   byteCodabar     the byte of a value, 0 past the table
---   bitsCodabar     the code of a value, 0 past the table
---   foundCodabar    the value of a code, 20 where no character has it
+--   table41             the seven-bit codes, in the order in which the source prints them: by value from 0 on
+--   alphabetCodabar     the 20 characters. The first 16 stand inside, the other four, the letters, start and stop
 --   innerRows, letterRows    the two sets as elements
-use mathlib.Core.List.{List, [], _∷_, map}
+use mathlib.Core.List.{List, [], _∷_}
 use Prim.Native.Nat.{ℕ}
-use lib.ListN.{getD, take, drop}
-use Rattle.laws.specs.Search.{indexIn}
-use Rattle.tables.specs.Bits.{spread}
+use lib.ListN.{take, drop}
 use Rattle.tables.specs.Printed.{_is_, bytes, numbers}
+use Rattle.tables.specs.Alphabet.{Alphabet, rowsOf}
 
 unfoldable pub table41 : List (ℕ × ℕ)
 table41 =
@@ -38,26 +33,11 @@ table41 =
     ∷ "D" is 0b0001110
     ∷ []
 
-unfoldable pub charsCodabar : List ℕ
-charsCodabar = bytes table41
-
-unfoldable pub codesCodabar : List ℕ
-codesCodabar = numbers table41
-
-unfoldable pub valueCodabar : ℕ → ℕ
-valueCodabar b = indexIn charsCodabar b
-
-unfoldable pub byteCodabar : ℕ → ℕ
-byteCodabar v = getD charsCodabar v 0
-
-unfoldable pub bitsCodabar : ℕ → ℕ
-bitsCodabar v = getD codesCodabar v 0
-
-unfoldable pub foundCodabar : ℕ → ℕ
-foundCodabar code = indexIn codesCodabar code
+unfoldable pub alphabetCodabar : Alphabet
+alphabetCodabar = record { chars = bytes table41; codes = numbers table41 }
 
 unfoldable pub innerRows : List (List ℕ)
-innerRows = map (spread 7) (take 16 codesCodabar)
+innerRows = take 16 (rowsOf 7 alphabetCodabar)
 
 unfoldable pub letterRows : List (List ℕ)
-letterRows = map (spread 7) (drop 16 codesCodabar)
+letterRows = drop 16 (rowsOf 7 alphabetCodabar)

@@ -1,19 +1,14 @@
 -- Code 39: source 001, tables 4.2 and 4.3. Document 01: "nine elements a character; * first and last, never in the data".
 --
---   table42    the nine-bit codes, in the order in which the source prints them
---   chars39    table 4.3: the character of each value from 0 on, 43 of them
---   codes39    the codes by value; last, at 43, the star: 44 of them
---   value39    the value of a byte, 43 where it is none of the 43
---   byte39     the byte of a value, 0 past the table
---   bits39     the code of a value, 0 past the table
---   found39    the value of a code, 43 where no character has it: the star is no character
---   rows39     the 43 characters as elements; star39, the start and the stop
+--   table42       the nine-bit codes, in the order in which the source prints them
+--   chars39       table 4.3: the character of each value from 0 on, 43 of them
+--   alphabet39    the characters and the codes by value; the last code, the 44th, is the star's
+--   rows39        the 43 characters as elements; star39, the start and the stop
 use mathlib.Core.List.{List, [], _∷_, _++_, map}
 use Prim.Native.Nat.{ℕ}
-use lib.ListN.{getD, take}
-use Rattle.laws.specs.Search.{indexIn}
 use Rattle.tables.specs.Bits.{spread}
 use Rattle.tables.specs.Printed.{text, _is_, given}
+use Rattle.tables.specs.Alphabet.{Alphabet, bitsOf, rowsOf}
 
 unfoldable pub table42 : List (ℕ × ℕ)
 table42 =
@@ -66,23 +61,11 @@ table42 =
 unfoldable pub chars39 : List ℕ
 chars39 = text "0123456789ABCDEFGHIJKLMNOPQRSTUVWXYZ-. $/+%"
 
-unfoldable pub codes39 : List ℕ
-codes39 = map (given table42) (chars39 ++ text "*")
-
-unfoldable pub value39 : ℕ → ℕ
-value39 b = indexIn chars39 b
-
-unfoldable pub byte39 : ℕ → ℕ
-byte39 v = getD chars39 v 0
-
-unfoldable pub bits39 : ℕ → ℕ
-bits39 v = getD codes39 v 0
-
-unfoldable pub found39 : ℕ → ℕ
-found39 code = indexIn (take 43 codes39) code
+unfoldable pub alphabet39 : Alphabet
+alphabet39 = record { chars = chars39; codes = map (given table42) (chars39 ++ text "*") }
 
 unfoldable pub rows39 : List (List ℕ)
-rows39 = map (spread 9) (take 43 codes39)
+rows39 = rowsOf 9 alphabet39
 
 unfoldable pub star39 : List ℕ
-star39 = spread 9 (bits39 43)
+star39 = spread 9 (bitsOf alphabet39 43)

@@ -1,5 +1,6 @@
 pub mod Bits
 pub mod Printed
+pub mod Alphabet
 pub mod Code39
 pub mod Codabar
 pub mod TwoOfFive

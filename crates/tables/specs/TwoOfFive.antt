@@ -1,18 +1,14 @@
 -- Industrial, Interleaved and Matrix 2 of 5: source 001, tables 4.4 to 4.6. The digits, which EAN and UPC share.
 --
---   table44         the five-bit codes; tables 4.4, 4.5 (bars and spaces alike) and 4.6 print the same ten
---   valueDigit      the value of a byte, 10 where it is no digit
---   byteDigit       the byte of a value, 0 past 9
---   bits25          the code of a digit, 0 past 9
---   found25         the digit of a code, 10 where no digit has it
+--   table44           the five-bit codes; tables 4.4, 4.5 (bars and spaces alike) and 4.6 print the same ten
+--   alphabetDigits    the ten digits
 --   industrialRows, interleavedRows, matrixRows    the digits (in Interleaved the hundred pairs) as elements
 --   industrialStart .. matrixEnds                  the starts and stops, the lines ST and SP of the three tables
 use mathlib.Core.List.{List, [], _∷_, map}
 use Prim.Native.Nat.{ℕ}
-use lib.ListN.{getD}
-use Rattle.laws.specs.Search.{indexIn}
 use Rattle.tables.specs.Bits.{spread, spaced, pairs}
 use Rattle.tables.specs.Printed.{_is_, bytes, numbers}
+use Rattle.tables.specs.Alphabet.{Alphabet, rowsOf}
 
 unfoldable pub table44 : List (ℕ × ℕ)
 table44 =
@@ -28,34 +24,24 @@ table44 =
     ∷ "9" is 0b01010
     ∷ []
 
-unfoldable pub charsDigit : List ℕ
-charsDigit = bytes table44
+unfoldable pub alphabetDigits : Alphabet
+alphabetDigits = record { chars = bytes table44; codes = numbers table44 }
 
-unfoldable pub codes25 : List ℕ
-codes25 = numbers table44
-
-unfoldable pub valueDigit : ℕ → ℕ
-valueDigit b = indexIn charsDigit b
-
-unfoldable pub byteDigit : ℕ → ℕ
-byteDigit v = getD charsDigit v 0
-
-unfoldable pub bits25 : ℕ → ℕ
-bits25 v = getD codes25 v 0
-
-unfoldable pub found25 : ℕ → ℕ
-found25 code = indexIn codes25 code
+-- the five elements that carry a digit
+unfoldable pub digitRows : List (List ℕ)
+digitRows = rowsOf 5 alphabetDigits
 
 -- five bars carry the code, all spaces are narrow
 unfoldable pub industrialRows : List (List ℕ)
-industrialRows = map (λ c. spaced (spread 5 c)) codes25
+industrialRows = map spaced digitRows
 
 -- the first digit in five bars, the second in the five spaces between and behind them: pair d, e is row 10 d + e
 unfoldable pub interleavedRows : List (List ℕ)
-interleavedRows = pairs (map (spread 5) codes25) (map (spread 5) codes25)
+interleavedRows = pairs digitRows digitRows
 
+-- five elements a digit
 unfoldable pub matrixRows : List (List ℕ)
-matrixRows = map (spread 5) codes25
+matrixRows = digitRows
 
 unfoldable pub industrialStart : List ℕ
 industrialStart = spaced (spread 3 0b110)

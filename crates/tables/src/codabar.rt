@@ -1,6 +1,7 @@
 // Codabar: table 4.1. Values 0 to 15 are the inner characters, 16 to 19 the letters that start and stop.
 ghost use mathlib.Core.Path.{_≡_};
-ghost use Rattle.tables.specs.Codabar.{valueCodabar, byteCodabar, bitsCodabar, foundCodabar};
+ghost use Rattle.tables.specs.Alphabet.{valueOf, byteOf, bitsOf, foundOf};
+ghost use Rattle.tables.specs.Codabar.{alphabetCodabar};
 
 // The characters by value.
 pub const CHARS: [u8; 20] = *b"0123456789-$:/.+ABCD";
@@ -31,7 +32,7 @@ pub const CODES: [u16; 20] = [
 
 // The value of a byte, or 20.
 pub fn value(byte: u8) -> u8
-    ensures { λ r. ⌜ r ≡ valueCodabar byte ⌝ }
+    ensures { λ r. ⌜ r ≡ valueOf alphabetCodabar byte ⌝ }
 {
     match byte {
         b'0'..=b'9' => byte - b'0',
@@ -48,21 +49,21 @@ pub fn value(byte: u8) -> u8
 
 // The byte of a value, or 0.
 pub fn byte(value: u8) -> u8
-    ensures { λ r. ⌜ r ≡ byteCodabar value ⌝ }
+    ensures { λ r. ⌜ r ≡ byteOf alphabetCodabar value ⌝ }
 {
     if value < 20 { CHARS[value as usize] } else { 0 }
 }
 
 // The code of a value, or 0.
 pub fn bits(value: u8) -> u16
-    ensures { λ r. ⌜ r ≡ bitsCodabar value ⌝ }
+    ensures { λ r. ⌜ r ≡ bitsOf alphabetCodabar value ⌝ }
 {
     if value < 20 { CODES[value as usize] } else { 0 }
 }
 
 // The value of a code, or 20.
 pub fn found(code: u16) -> u8
-    ensures { λ r. ⌜ r ≡ foundCodabar code ⌝ }
+    ensures { λ r. ⌜ r ≡ foundOf alphabetCodabar code ⌝ }
 {
     let codes = CODES;
     laws::index_in(&codes, code) as u8

@@ -1,6 +1,7 @@
 // Code 39: tables 4.2 and 4.3. Values 0 to 42 are the characters, 43 is the star.
 ghost use mathlib.Core.Path.{_≡_};
-ghost use Rattle.tables.specs.Code39.{value39, byte39, bits39, found39};
+ghost use Rattle.tables.specs.Alphabet.{valueOf, byteOf, bitsOf, foundOf};
+ghost use Rattle.tables.specs.Code39.{alphabet39};
 
 // The characters by value.
 pub const CHARS: [u8; 43] = *b"0123456789ABCDEFGHIJKLMNOPQRSTUVWXYZ-. $/+%";
@@ -55,7 +56,7 @@ pub const CODES: [u16; 44] = [
 
 // The value of a byte, or 43.
 pub fn value(byte: u8) -> u8
-    ensures { λ r. ⌜ r ≡ value39 byte ⌝ }
+    ensures { λ r. ⌜ r ≡ valueOf alphabet39 byte ⌝ }
 {
     match byte {
         b'0'..=b'9' => byte - b'0',
@@ -73,21 +74,21 @@ pub fn value(byte: u8) -> u8
 
 // The byte of a value, or 0.
 pub fn byte(value: u8) -> u8
-    ensures { λ r. ⌜ r ≡ byte39 value ⌝ }
+    ensures { λ r. ⌜ r ≡ byteOf alphabet39 value ⌝ }
 {
     if value < 43 { CHARS[value as usize] } else { 0 }
 }
 
 // The code of a value, or 0.
 pub fn bits(value: u8) -> u16
-    ensures { λ r. ⌜ r ≡ bits39 value ⌝ }
+    ensures { λ r. ⌜ r ≡ bitsOf alphabet39 value ⌝ }
 {
     if value < 44 { CODES[value as usize] } else { 0 }
 }
 
 // The value of a code, or 43: the star is no character.
 pub fn found(code: u16) -> u8
-    ensures { λ r. ⌜ r ≡ found39 code ⌝ }
+    ensures { λ r. ⌜ r ≡ foundOf alphabet39 code ⌝ }
 {
     let codes = CODES;
     laws::index_in(&codes[..43], code) as u8

@@ -1,6 +1,7 @@
 // Industrial, Interleaved and Matrix 2 of 5: tables 4.4 to 4.6, and the digits, which EAN and UPC share.
 ghost use mathlib.Core.Path.{_≡_};
-ghost use Rattle.tables.specs.TwoOfFive.{valueDigit, byteDigit, bits25, found25};
+ghost use Rattle.tables.specs.Alphabet.{valueOf, byteOf, bitsOf, foundOf};
+ghost use Rattle.tables.specs.TwoOfFive.{alphabetDigits};
 
 // The five-bit codes by digit: the highest bit is the first element that carries the digit, and 1 is wide.
 pub const CODES: [u16; 10] = [
@@ -18,7 +19,7 @@ pub const CODES: [u16; 10] = [
 
 // The digit of a byte, or 10.
 pub fn value(byte: u8) -> u8
-    ensures { λ r. ⌜ r ≡ valueDigit byte ⌝ }
+    ensures { λ r. ⌜ r ≡ valueOf alphabetDigits byte ⌝ }
 {
     match byte {
         b'0'..=b'9' => byte - b'0',
@@ -28,21 +29,21 @@ pub fn value(byte: u8) -> u8
 
 // The byte of a digit, or 0.
 pub fn byte(value: u8) -> u8
-    ensures { λ r. ⌜ r ≡ byteDigit value ⌝ }
+    ensures { λ r. ⌜ r ≡ byteOf alphabetDigits value ⌝ }
 {
     if value < 10 { b'0' + value } else { 0 }
 }
 
 // The code of a digit, or 0.
 pub fn bits(value: u8) -> u16
-    ensures { λ r. ⌜ r ≡ bits25 value ⌝ }
+    ensures { λ r. ⌜ r ≡ bitsOf alphabetDigits value ⌝ }
 {
     if value < 10 { CODES[value as usize] } else { 0 }
 }
 
 // The digit of a code, or 10.
 pub fn found(code: u16) -> u8
-    ensures { λ r. ⌜ r ≡ found25 code ⌝ }
+    ensures { λ r. ⌜ r ≡ foundOf alphabetDigits code ⌝ }
 {
     let codes = CODES;
     laws::index_in(&codes, code) as u8

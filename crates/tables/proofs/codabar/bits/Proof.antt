@@ -3,7 +3,8 @@
 use mathlib.Core.Path.{refl, sym}
 use native.Mathlib.Omega.{arith}
 use lib.ListN.{List·getD-eq-default}
-use Rattle.tables.specs.Codabar.{bitsCodabar, codesCodabar, table41}
+use Rattle.tables.specs.Alphabet.{bitsOf}
+use Rattle.tables.specs.Codabar.{alphabetCodabar, table41}
 use borrow.Author.Needs.{needs}
 use Rattle.tables.proofs.codabar.bits.Statement.{statement}
 use Rattle.tables.proofs.codabar.bits.Tie as tie
@@ -14,5 +15,5 @@ bits-spec =
     (tie.spec
     (λ c. search needs)
     (λ c. search needs)
-    (λ c. unfold bitsCodabar codesCodabar table41 in refl)
-    (λ c. unfold bitsCodabar codesCodabar table41 in sym (List·getD-eq-default codesCodabar 0 {n = c .before .args .value} (omega arith))))
+    (λ c. unfold bitsOf alphabetCodabar table41 in refl)
+    (λ c. unfold bitsOf alphabetCodabar table41 in sym (List·getD-eq-default (alphabetCodabar .codes) 0 {n = c .before .args .value} (omega arith))))

@@ -3,7 +3,8 @@
 use mathlib.Core.Path.{refl, sym}
 use native.Mathlib.Omega.{arith}
 use lib.ListN.{List·getD-eq-default}
-use Rattle.tables.specs.Codabar.{byteCodabar, charsCodabar, table41}
+use Rattle.tables.specs.Alphabet.{byteOf}
+use Rattle.tables.specs.Codabar.{alphabetCodabar, table41}
 use borrow.Author.Needs.{needs}
 use Rattle.tables.proofs.codabar.byte.Statement.{statement}
 use Rattle.tables.proofs.codabar.byte.Tie as tie
@@ -13,5 +14,5 @@ byte-spec =
     tie.close
     (tie.spec
     (λ c. search needs)
-    (λ c. unfold byteCodabar charsCodabar table41 in refl)
-    (λ c. unfold byteCodabar charsCodabar table41 in sym (List·getD-eq-default charsCodabar 0 {n = c .before .args .value} (omega arith))))
+    (λ c. unfold byteOf alphabetCodabar table41 in refl)
+    (λ c. unfold byteOf alphabetCodabar table41 in sym (List·getD-eq-default (alphabetCodabar .chars) 0 {n = c .before .args .value} (omega arith))))

@@ -2,7 +2,8 @@
 -- Assumes nothing.
 use lib.Dec.{lit<}
 use Rattle.laws.proofs.Search.{index-below}
-use Rattle.tables.specs.Codabar.{foundCodabar, codesCodabar, table41}
+use Rattle.tables.specs.Alphabet.{foundOf}
+use Rattle.tables.specs.Codabar.{alphabetCodabar, table41}
 use borrow.Author.Needs.{needs}
 use Rattle.tables.proofs.codabar.found.Statement.{statement}
 use Rattle.tables.proofs.codabar.found.Tie as tie
@@ -14,4 +15,4 @@ found-spec =
     (λ c. search needs)
     (λ c κs. search needs)
     (λ c. record { fits = index-below _ _ _ _ (c .index-in .ensures) (lit< tt) })
-    (λ c. unfold foundCodabar codesCodabar table41 in c .index-in .ensures))
+    (λ c. unfold foundOf alphabetCodabar table41 in c .index-in .ensures))

@@ -3,7 +3,8 @@
 use mathlib.Core.Path.{refl, sym}
 use native.Mathlib.Omega.{arith}
 use lib.ListN.{List·getD-eq-default}
-use Rattle.tables.specs.Code39.{bits39, codes39, chars39, table42}
+use Rattle.tables.specs.Alphabet.{bitsOf}
+use Rattle.tables.specs.Code39.{alphabet39, chars39, table42}
 use borrow.Author.Needs.{needs}
 use Rattle.tables.proofs.code39.bits.Statement.{statement}
 use Rattle.tables.proofs.code39.bits.Tie as tie
@@ -14,5 +15,5 @@ bits-spec =
     (tie.spec
     (λ c. search needs)
     (λ c. search needs)
-    (λ c. unfold bits39 codes39 chars39 table42 in refl)
-    (λ c. unfold bits39 codes39 chars39 table42 in sym (List·getD-eq-default codes39 0 {n = c .before .args .value} (omega arith))))
+    (λ c. unfold bitsOf alphabet39 chars39 table42 in refl)
+    (λ c. unfold bitsOf alphabet39 chars39 table42 in sym (List·getD-eq-default (alphabet39 .codes) 0 {n = c .before .args .value} (omega arith))))

@@ -7,7 +7,8 @@ use Prim.Native.Nat.{ℕ, _+_, _-_}
 use native.Mathlib.Omega.{arith}
 use Rattle.laws.specs.Search.{indexIn}
 use Rattle.laws.proofs.Arms.{agree}
-use Rattle.tables.specs.Code39.{chars39, value39}
+use Rattle.tables.specs.Alphabet.{valueOf}
+use Rattle.tables.specs.Code39.{alphabet39, chars39}
 use Rattle.tables.proofs.code39.value.Statement.{statement}
 use Rattle.tables.proofs.code39.value.Tie as tie
 
@@ -21,15 +22,15 @@ value-spec =
     (tie.spec
     (λ c. omega (arith, agree keys 45 13 (λ b. 48 - b) (λ b. 0) refl _ (c .before .if1 .left) (c .if2 .taken) (c .before .before .match .rest)))
     (λ c. omega (arith, c .if4 .taken))
-    (λ c. unfold value39 chars39 indexIn in rw (c .match .keys1))
-    (λ c. unfold value39 chars39 indexIn in rw (c .match .keys2))
-    (λ c. unfold value39 chars39 indexIn in rw (c .match .keys3))
-    (λ c. unfold value39 chars39 indexIn in rw (c .match .keys4))
-    (λ c. unfold value39 chars39 indexIn in rw (c .match .keys5))
-    (λ c. unfold value39 chars39 indexIn in rw (c .match .keys6))
-    (λ c. unfold value39 chars39 indexIn in rw (c .match .keys7))
-    (λ c. unfold value39 chars39 indexIn in agree keys 45 13 (λ b. b - 48) value39 refl _ (c .before .if1 .left) (c .if2 .taken) (c .before .before .match .rest))
-    (λ c. unfold value39 chars39 indexIn in agree [] 65 26 (λ b. b - 65 + 10) value39 refl _ (c .before .if3 .left) (c .if4 .taken) tt)
-    (λ c. unfold value39 chars39 indexIn in agree keys 0 45 (λ b. 43) value39 refl _ (omega arith) (c .if1 .taken) (c .before .match .rest))
-    (λ c. unfold value39 chars39 indexIn in agree [] 58 7 (λ b. 43) value39 refl _ (c .before .if2 .left) (c .if3 .taken) tt)
-    (λ c. unfold value39 chars39 indexIn in agree [] 91 165 (λ b. 43) value39 refl _ (c .if4 .left) (search needs) tt))
+    (λ c. unfold valueOf alphabet39 chars39 indexIn in rw (c .match .keys1))
+    (λ c. unfold valueOf alphabet39 chars39 indexIn in rw (c .match .keys2))
+    (λ c. unfold valueOf alphabet39 chars39 indexIn in rw (c .match .keys3))
+    (λ c. unfold valueOf alphabet39 chars39 indexIn in rw (c .match .keys4))
+    (λ c. unfold valueOf alphabet39 chars39 indexIn in rw (c .match .keys5))
+    (λ c. unfold valueOf alphabet39 chars39 indexIn in rw (c .match .keys6))
+    (λ c. unfold valueOf alphabet39 chars39 indexIn in rw (c .match .keys7))
+    (λ c. unfold valueOf alphabet39 chars39 indexIn in agree keys 45 13 (λ b. b - 48) (valueOf alphabet39) refl _ (c .before .if1 .left) (c .if2 .taken) (c .before .before .match .rest))
+    (λ c. unfold valueOf alphabet39 chars39 indexIn in agree [] 65 26 (λ b. b - 65 + 10) (valueOf alphabet39) refl _ (c .before .if3 .left) (c .if4 .taken) tt)
+    (λ c. unfold valueOf alphabet39 chars39 indexIn in agree keys 0 45 (λ b. 43) (valueOf alphabet39) refl _ (omega arith) (c .if1 .taken) (c .before .match .rest))
+    (λ c. unfold valueOf alphabet39 chars39 indexIn in agree [] 58 7 (λ b. 43) (valueOf alphabet39) refl _ (c .before .if2 .left) (c .if3 .taken) tt)
+    (λ c. unfold valueOf alphabet39 chars39 indexIn in agree [] 91 165 (λ b. 43) (valueOf alphabet39) refl _ (c .if4 .left) (search needs) tt))

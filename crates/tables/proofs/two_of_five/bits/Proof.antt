@@ -3,7 +3,8 @@
 use mathlib.Core.Path.{refl, sym}
 use native.Mathlib.Omega.{arith}
 use lib.ListN.{List·getD-eq-default}
-use Rattle.tables.specs.TwoOfFive.{bits25, codes25, table44}
+use Rattle.tables.specs.Alphabet.{bitsOf}
+use Rattle.tables.specs.TwoOfFive.{alphabetDigits, table44}
 use borrow.Author.Needs.{needs}
 use Rattle.tables.proofs.two_of_five.bits.Statement.{statement}
 use Rattle.tables.proofs.two_of_five.bits.Tie as tie
@@ -14,5 +15,5 @@ bits-spec =
     (tie.spec
     (λ c. search needs)
     (λ c. search needs)
-    (λ c. unfold bits25 codes25 table44 in refl)
-    (λ c. unfold bits25 codes25 table44 in sym (List·getD-eq-default codes25 0 {n = c .before .args .value} (omega arith))))
+    (λ c. unfold bitsOf alphabetDigits table44 in refl)
+    (λ c. unfold bitsOf alphabetDigits table44 in sym (List·getD-eq-default (alphabetDigits .codes) 0 {n = c .before .args .value} (omega arith))))

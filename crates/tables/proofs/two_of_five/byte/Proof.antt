@@ -6,7 +6,8 @@ use native.Mathlib.Omega.{arith}
 use borrow.Author.Needs.{needs}
 use lib.ListN.{List·getD-eq-default}
 use Rattle.laws.proofs.Finite.{line}
-use Rattle.tables.specs.TwoOfFive.{table44, charsDigit, byteDigit}
+use Rattle.tables.specs.Alphabet.{byteOf}
+use Rattle.tables.specs.TwoOfFive.{alphabetDigits, table44}
 use borrow.Author.Needs.{needs}
 use Rattle.tables.proofs.two_of_five.byte.Statement.{statement}
 use Rattle.tables.proofs.two_of_five.byte.Tie as tie
@@ -16,5 +17,5 @@ byte-spec =
     tie.close
     (tie.spec
     (λ c. search needs)
-    (λ c. unfold byteDigit charsDigit table44 in line 10 (λ d. 48 + d) byteDigit refl _ (c .if1 .taken))
-    (λ c. unfold byteDigit charsDigit table44 in sym (List·getD-eq-default charsDigit 0 {n = c .before .args .value} (omega arith))))
+    (λ c. unfold byteOf alphabetDigits table44 in line 10 (λ d. 48 + d) (byteOf alphabetDigits) refl _ (c .if1 .taken))
+    (λ c. unfold byteOf alphabetDigits table44 in sym (List·getD-eq-default (alphabetDigits .chars) 0 {n = c .before .args .value} (omega arith))))

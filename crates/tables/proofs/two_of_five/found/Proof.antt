@@ -2,7 +2,8 @@
 -- Assumes nothing.
 use lib.Dec.{lit<}
 use Rattle.laws.proofs.Search.{index-below}
-use Rattle.tables.specs.TwoOfFive.{found25, codes25, table44}
+use Rattle.tables.specs.Alphabet.{foundOf}
+use Rattle.tables.specs.TwoOfFive.{alphabetDigits, table44}
 use borrow.Author.Needs.{needs}
 use Rattle.tables.proofs.two_of_five.found.Statement.{statement}
 use Rattle.tables.proofs.two_of_five.found.Tie as tie
@@ -14,4 +15,4 @@ found-spec =
     (λ c. search needs)
     (λ c κs. search needs)
     (λ c. record { fits = index-below _ _ _ _ (c .index-in .ensures) (lit< tt) })
-    (λ c. unfold found25 codes25 table44 in c .index-in .ensures))
+    (λ c. unfold foundOf alphabetDigits table44 in c .index-in .ensures))
