@@ -5,6 +5,7 @@ pub mod Elements
 pub mod Sets
 pub mod Strips
 pub mod Shapes
+pub mod Spelling
 pub mod Remainders
 pub mod Weigh
 pub mod Only

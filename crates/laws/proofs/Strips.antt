@@ -54,11 +54,11 @@ next-found : (b : Bool) (k : Kind) (c at : ℕ) (z : Reading) (cs : List ℕ) �
 next-found true k c at z cs e = (refl, e)
 next-found false k c at z cs e = (cc, cc)
 
-push-some : (c : ℕ) (z : Reading) (d : ℕ) (ds : List ℕ) → push c z ≡ found (d ∷ ds) → (c ≡ d) × (z ≡ found ds)
+pub push-some : (c : ℕ) (z : Reading) (d : ℕ) (ds : List ℕ) → push c z ≡ found (d ∷ ds) → (c ≡ d) × (z ≡ found ds)
 push-some c (found cs) d ds e = (cc, cc)
 push-some c (stopped p) d ds e = (cc, cc)
 
-push-none : (c : ℕ) (z : Reading) → push c z ≢ found []
+pub push-none : (c : ℕ) (z : Reading) → push c z ≢ found []
 push-none c (found cs) e = let z : _≡_ {A = ℕ} 0 1 = cc in omega arith
 push-none c (stopped p) e = let z : _≡_ {A = ℕ} 0 1 = cc in omega arith
 

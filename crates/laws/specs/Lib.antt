@@ -3,4 +3,5 @@ pub mod Elements
 pub mod Units
 pub mod Shapes
 pub mod Weigh
+pub mod Spelling
 pub mod One

@@ -1,0 +1,206 @@
+-- Spelling and its way back undo one another.
+--
+--   Drawn, Valid    what is asked of a coder: a byte draws nothing, one character that begins no pair, or a pair; and the
+--                   search finds it again
+--   for-hit         a byte that is found draws the item
+--   spell-unspell   what is spelled is read back
+--   unspell-spell   what is read back spells the characters
+--   spell-iff       both
+--   spell-long      there are at least as many characters as bytes
+--   spell-same      and just as many where no byte draws a pair
+--
+-- Assumes nothing.
+use mathlib.Core.Path.{_≡_, refl, sym, ap, _∙_}
+use mathlib.Core.Logic.{_≢_, _↔_}
+use mathlib.Core.Bool.{Bool, true, false}
+use mathlib.Core.List.{List, [], _∷_, _++_}
+use Prim.Native.Nat.{ℕ, zero, suc, _+_, _<_, _≤_}
+use native.Mathlib.Omega.{arith}
+use native.Mathlib.Nat.{le-of-suc-le-suc, not-suc-le-zero}
+use lib.Dec.{ltb}
+use lib.ListN.{length, getD}
+use borrow.Author.Tests.{ltb-true, lt-ltb}
+use Rattle.laws.specs.Search.{pick, first}
+use Rattle.laws.specs.Elements.{alike}
+use Rattle.laws.specs.Units.{Reading, found, stopped, push}
+use Rattle.laws.specs.Spelling.{Coder, atEnd, join, took, spell, counted, byteFor, gave, unspell}
+use Rattle.laws.proofs.Search.{first-hit}
+use Rattle.laws.proofs.Elements.{alike-true}
+use Rattle.laws.proofs.Strips.{push-some, push-none}
+
+pub data Drawn (k : Coder) (end : Bool) (b : ℕ) : Type 0 where
+  none : k .drawn end b ≡ [] → Drawn k end b
+  alone : (c : ℕ) → k .drawn end b ≡ c ∷ [] → k .shift c ≡ false → byteFor k end (c ∷ []) ≡ b → b < 256 → Drawn k end b
+  pair : (c d : ℕ) → k .drawn end b ≡ c ∷ d ∷ [] → k .shift c ≡ true → byteFor k end (c ∷ d ∷ []) ≡ b → b < 256 → Drawn k end b
+
+abbrev pub Valid : Coder → Type 0
+Valid k = (end : Bool) (b : ℕ) → Drawn k end b
+
+-- ---- the search
+
+counted-at : (i n j : ℕ) → j < n → getD (counted i n) j 0 ≡ i + j
+counted-at i zero j h = absurd (not-suc-le-zero h)
+counted-at i (suc n) zero h = omega arith
+counted-at i (suc n) (suc j) h = omega (arith, counted-at (suc i) n j (le-of-suc-le-suc h))
+
+counted-length : (i n : ℕ) → length (counted i n) ≡ n
+counted-length i zero = refl
+counted-length i (suc n) = ap suc (counted-length (suc i) n)
+
+pub for-hit : (k : Coder) (end : Bool) (item : List ℕ) → byteFor k end item < 256 → k .drawn end (byteFor k end item) ≡ item
+unfolding byteFor
+for-hit k end item h =
+    let e : getD (counted 0 256) (byteFor k end item) 0 ≡ byteFor k end item = omega (arith, counted-at 0 256 (byteFor k end item) h) in
+    rw e at (alike-true (k .drawn end (getD (counted 0 256) (byteFor k end item) 0)) item (first-hit 0 (λ b. alike (k .drawn end b) item) (counted 0 256) (rw (counted-length 0 256) h)))
+
+-- ---- one step each way
+
+unspell-one : (k : Coder) (start : Bool) (at c : ℕ) (cs : List ℕ) → k .shift c ≡ false
+    → unspell k start at (c ∷ cs) ≡ gave at (byteFor k (atEnd start cs) (c ∷ [])) (unspell k false (suc at) cs)
+unspell-one k start at c [] s = refl
+unspell-one k start at c (d ∷ cs) s = rw s
+
+unspell-two : (k : Coder) (start : Bool) (at c d : ℕ) (cs : List ℕ) → k .shift c ≡ true
+    → unspell k start at (c ∷ d ∷ cs) ≡ gave at (byteFor k (atEnd start cs) (c ∷ d ∷ [])) (unspell k false (suc (suc at)) cs)
+unspell-two k start at c d cs s = rw s
+
+gave-found : (at b : ℕ) (z : Reading) (t : Bool) (ds : List ℕ) → ltb b 256 ≡ t → pick t (push b z) (stopped at) ≡ found ds → (b < 256) × (push b z ≡ found ds)
+gave-found at b z true ds e p = (ltb-true b 256 e, p)
+gave-found at b z false ds e p = let q : _≡_ {A = ℕ} 0 1 = cc in absurd (omega arith)
+
+gave-some : (at b : ℕ) (z : Reading) (ds : List ℕ) → b < 256 → z ≡ found ds → gave at b z ≡ found (b ∷ ds)
+gave-some at b z ds h e = rw (lt-ltb b 256 h, e)
+
+-- a spelling ends where its data end
+ends-step : (start : Bool) (at : ℕ) (p : List ℕ) (z : Reading) (h : List ℕ) → took at p z ≡ found h → atEnd start h ≡ start
+ends-step start at [] z h e = let q : _≡_ {A = ℕ} 0 1 = cc in absurd (omega arith)
+ends-step start at (c ∷ cs) z [] e = absurd (push-none c (join cs z) e)
+ends-step start at (c ∷ cs) z (x ∷ h) e = refl
+
+found-nil : (h : List ℕ) → found [] ≡ found h → [] ≡ h
+found-nil h e = cc
+
+ends : (k : Coder) (start f : Bool) (at : ℕ) (d h : List ℕ) → spell k f at d ≡ found h → atEnd start d ≡ atEnd start h
+ends k start f at [] h e = rw (← found-nil h e)
+ends k start f at (b ∷ bs) h e = sym (ends-step start at (k .drawn (atEnd f bs) b) (spell k false (suc at) bs) h e)
+
+-- ---- what is spelled is read back
+
+Back : Coder → Bool → List ℕ → List ℕ → Type 0
+Back k start h d = (at : ℕ) → unspell k start at h ≡ found d
+
+back-one : (k : Coder) (start : Bool) (at b c : ℕ) (bs h : List ℕ) (z : Reading) → k .shift c ≡ false → byteFor k (atEnd start bs) (c ∷ []) ≡ b → b < 256
+    → spell k false at bs ≡ z → ((g : List ℕ) → z ≡ found g → Back k false g bs) → push c z ≡ found h → Back k start h (b ∷ bs)
+unfolding Back
+back-one k start at b c bs [] z s o l e ih p to = absurd (push-none c z p)
+back-one k start at b c bs (x ∷ g) z s o l e ih p to =
+    let q : (c ≡ x) × (z ≡ found g) = push-some c z x g p in
+    let f : byteFor k (atEnd start g) (c ∷ []) ≡ b = rw (← ends k start false at bs g (e ∙ q .1)) o in
+    rw (← q .0, unspell-one k start to c g s, f) (gave-some to b _ bs l (ih g (q .1) (suc to)))
+
+back-two : (k : Coder) (start : Bool) (at b c d : ℕ) (bs h : List ℕ) (z : Reading) → k .shift c ≡ true → byteFor k (atEnd start bs) (c ∷ d ∷ []) ≡ b → b < 256
+    → spell k false at bs ≡ z → ((g : List ℕ) → z ≡ found g → Back k false g bs) → push c (push d z) ≡ found h → Back k start h (b ∷ bs)
+unfolding Back
+back-two k start at b c d bs [] z s o l e ih p to = absurd (push-none c (push d z) p)
+back-two k start at b c d bs (x ∷ []) z s o l e ih p to = absurd (push-none d z (push-some c (push d z) x [] p .1))
+back-two k start at b c d bs (x ∷ y ∷ g) z s o l e ih p to =
+    let q : (c ≡ x) × (push d z ≡ found (y ∷ g)) = push-some c (push d z) x (y ∷ g) p in
+    let r : (d ≡ y) × (z ≡ found g) = push-some d z y g (q .1) in
+    let f : byteFor k (atEnd start g) (c ∷ d ∷ []) ≡ b = rw (← ends k start false at bs g (e ∙ r .1)) o in
+    rw (← q .0, ← r .0, unspell-two k start to c d g s, f) (gave-some to b _ bs l (ih g (r .1) (suc (suc to))))
+
+back-step : (k : Coder) (start : Bool) (at b : ℕ) (bs h : List ℕ) → Drawn k (atEnd start bs) b
+    → ((g : List ℕ) → spell k false (suc at) bs ≡ found g → Back k false g bs)
+    → took at (k .drawn (atEnd start bs) b) (spell k false (suc at) bs) ≡ found h → Back k start h (b ∷ bs)
+back-step k start at b bs h (none n) ih e = let q : _≡_ {A = ℕ} 0 1 = cc (rw n at e) in absurd (omega arith)
+back-step k start at b bs h (alone c n s o l) ih e = back-one k start (suc at) b c bs h _ s o l refl ih (rw n at e)
+back-step k start at b bs h (pair c d n s o l) ih e = back-two k start (suc at) b c d bs h _ s o l refl ih (rw n at e)
+
+spell-back : (k : Coder) → Valid k → (d h : List ℕ) (start : Bool) (at : ℕ) → spell k start at d ≡ found h → Back k start h d
+unfolding Back
+spell-back k v [] h start at e to = rw (← found-nil h e)
+spell-back k v (b ∷ bs) h start at e to =
+    back-step k start at b bs h (v (atEnd start bs) b) (λ g p. spell-back k v bs g false (suc at) p) e to
+
+pub spell-unspell : (k : Coder) → Valid k → (d h : List ℕ) (start : Bool) (at to : ℕ) → spell k start at d ≡ found h → unspell k start to h ≡ found d
+unfolding Back
+spell-unspell k v d h start at to e = spell-back k v d h start at e to
+
+-- ---- what is read back spells the characters
+
+Forth : Coder → Bool → List ℕ → List ℕ → Type 0
+Forth k start d h = (at : ℕ) → spell k start at d ≡ found h
+
+-- an item and what stands behind it
+forth-step : (k : Coder) (start : Bool) (to b c : ℕ) (cs g d : List ℕ) (z : Reading) → byteFor k (atEnd start g) (c ∷ cs) ≡ b
+    → ((bs : List ℕ) → z ≡ found bs → Forth k false bs g) → gave to b z ≡ found d → Forth k start d (c ∷ cs ++ g)
+unfolding Forth
+forth-step k start to b c cs g d z o ih e at = go d (gave-found to b z (ltb b 256) d refl e)
+  where
+    joined : (xs ys : List ℕ) → join xs (found ys) ≡ found (xs ++ ys)
+    joined [] ys = refl
+    joined (x ∷ xs) ys = rw (joined xs ys)
+
+    go : (d : List ℕ) → (b < 256) × (push b z ≡ found d) → spell k start at d ≡ found (c ∷ cs ++ g)
+    go [] p = absurd (push-none b z (p .1))
+    go (x ∷ bs) p =
+        let q : (b ≡ x) × (z ≡ found bs) = push-some b z x bs (p .1) in
+        let r : spell k false (suc at) bs ≡ found g = ih bs (q .1) (suc at) in
+        let n : k .drawn (atEnd start bs) x ≡ c ∷ cs
+        = rw (← q .0, ends k start false (suc at) bs g r, ← o) (for-hit k (atEnd start g) (c ∷ cs) (rw o (p .0))) in
+        rw (r, n) (joined (c ∷ cs) g)
+
+forth-two : (k : Coder) (start : Bool) (to c x : ℕ) (cs d : List ℕ) (t : Bool)
+    → ((bs : List ℕ) → unspell k false (suc (suc to)) cs ≡ found bs → Forth k false bs cs)
+    → ((bs : List ℕ) → unspell k false (suc to) (x ∷ cs) ≡ found bs → Forth k false bs (x ∷ cs))
+    → pick t (gave to (byteFor k (atEnd start cs) (c ∷ x ∷ [])) (unspell k false (suc (suc to)) cs))
+    (gave to (byteFor k start (c ∷ [])) (unspell k false (suc to) (x ∷ cs))) ≡ found d
+    → Forth k start d (c ∷ x ∷ cs)
+forth-two k start to c x cs d true two one e = forth-step k start to _ c (x ∷ []) cs d _ refl two e
+forth-two k start to c x cs d false two one e = forth-step k start to _ c [] (x ∷ cs) d _ refl one e
+
+unspell-forth : (k : Coder) (h d : List ℕ) (start : Bool) (to : ℕ) → unspell k start to h ≡ found d → Forth k start d h
+unfolding Forth
+unspell-forth k [] d start to e at = rw (← found-nil d e)
+unspell-forth k (c ∷ []) d start to e at = forth-step k start to _ c [] [] d (found []) refl (λ bs p at. rw (← found-nil bs p)) e at
+unspell-forth k (c ∷ x ∷ cs) d start to e at =
+    forth-two k start to c x cs d (k .shift c)
+    (λ bs p. unspell-forth k cs bs false (suc (suc to)) p) (λ bs p. unspell-forth k (x ∷ cs) bs false (suc to) p) e at
+
+pub unspell-spell : (k : Coder) (h d : List ℕ) (start : Bool) (to at : ℕ) → unspell k start to h ≡ found d → spell k start at d ≡ found h
+unfolding Forth
+unspell-spell k h d start to at e = unspell-forth k h d start to e at
+
+pub spell-iff : (k : Coder) → Valid k → (d h : List ℕ) (start : Bool) → (spell k start 0 d ≡ found h) ↔ (unspell k start 0 h ≡ found d)
+spell-iff k v d h start = (spell-unspell k v d h start 0 0, unspell-spell k h d start 0 0)
+
+-- ---- how many
+
+push-length : (c : ℕ) (z : Reading) (h : List ℕ) (n : ℕ) → ((g : List ℕ) → z ≡ found g → n ≤ length g) → push c z ≡ found h → suc n ≤ length h
+push-length c z [] n ih e = absurd (push-none c z e)
+push-length c z (x ∷ g) n ih e = omega (arith, ih g (push-some c z x g e .1))
+
+join-length : (cs : List ℕ) (z : Reading) (h : List ℕ) (n : ℕ) → ((g : List ℕ) → z ≡ found g → n ≤ length g) → join cs z ≡ found h → n ≤ length h
+join-length [] z h n ih e = ih h e
+join-length (c ∷ cs) z h n ih e = omega (arith, push-length c (join cs z) h n (λ g p. join-length cs z g n ih p) e)
+
+long-step : (at : ℕ) (p : List ℕ) (z : Reading) (h : List ℕ) (n : ℕ) → ((g : List ℕ) → z ≡ found g → n ≤ length g) → took at p z ≡ found h → suc n ≤ length h
+long-step at [] z h n ih e = let q : _≡_ {A = ℕ} 0 1 = cc in absurd (omega arith)
+long-step at (c ∷ cs) z h n ih e = push-length c (join cs z) h n (λ g p. join-length cs z g n ih p) e
+
+pub spell-long : (k : Coder) (d h : List ℕ) (start : Bool) (at : ℕ) → spell k start at d ≡ found h → length d ≤ length h
+spell-long k [] h start at e = omega arith
+spell-long k (b ∷ bs) h start at e =
+    long-step at (k .drawn (atEnd start bs) b) (spell k false (suc at) bs) h (length bs) (λ g p. spell-long k bs g false (suc at) p) e
+
+same-step : (at : ℕ) (p : List ℕ) (z : Reading) (h : List ℕ) (n : ℕ) → length p ≤ 1 → ((g : List ℕ) → z ≡ found g → length g ≡ n) → took at p z ≡ found h → length h ≡ suc n
+same-step at [] z h n l ih e = let q : _≡_ {A = ℕ} 0 1 = cc in absurd (omega arith)
+same-step at (c ∷ []) z [] n l ih e = absurd (push-none c z e)
+same-step at (c ∷ []) z (x ∷ g) n l ih e = ap suc (ih g (push-some c z x g e .1))
+same-step at (c ∷ d ∷ cs) z h n l ih e = absurd (omega arith)
+
+pub spell-same : (k : Coder) → ((end : Bool) (b : ℕ) → length (k .drawn end b) ≤ 1) → (d h : List ℕ) (start : Bool) (at : ℕ) → spell k start at d ≡ found h → length h ≡ length d
+spell-same k l [] h start at e = rw (← found-nil h e)
+spell-same k l (b ∷ bs) h start at e =
+    same-step at (k .drawn (atEnd start bs) b) (spell k false (suc at) bs) h (length bs) (l (atEnd start bs) b)
+    (λ g p. spell-same k l bs g false (suc at) p) e
