@@ -6,6 +6,7 @@
 --   line       two numbers agree below a bound
 --   grid       two numbers agree at every pair below two bounds
 --   every      a test at every entry of a list and its index; `every-at` reads it off
+--   Each       a fact of every entry of a list; `each-at` reads it off, at an entry or past them
 --
 -- Assumes nothing.
 use mathlib.Core.Path.{_≡_, refl}
@@ -58,3 +59,13 @@ module _ {A : Type 0} (d : A) where
 
   pub every-at : (f : ℕ → A → Bool) (xs : List A) → every f 0 xs ≡ true → (i : ℕ) → i < length xs → f i (getD xs i d) ≡ true
   every-at f xs e i h = rw zero-add at (every-from f xs 0 i e h)
+
+module _ {A : Type 0} (P : A → Type 0) where
+  abbrev pub Each : List A → Type 0
+  Each [] = Unit {0}
+  Each (x ∷ xs) = P x × Each xs
+
+  pub each-at : (xs : List A) (d : A) → Each xs → P d → (i : ℕ) → P (getD xs i d)
+  each-at [] d e p i = p
+  each-at (x ∷ xs) d e p zero = e .0
+  each-at (x ∷ xs) d e p (suc i) = each-at xs d (e .1) p i

@@ -3,6 +3,7 @@
 --   Drawn, Valid    what is asked of a coder: a byte draws nothing, one character that begins no pair, or a pair; and the
 --                   search finds it again
 --   for-hit         a byte that is found draws the item
+--   for-own         and where no other byte draws it, that byte is found
 --   spell-unspell   what is spelled is read back
 --   unspell-spell   what is read back spells the characters
 --   spell-iff       both
@@ -24,8 +25,8 @@ use Rattle.laws.specs.Search.{pick, first}
 use Rattle.laws.specs.Elements.{alike}
 use Rattle.laws.specs.Units.{Reading, found, stopped, push}
 use Rattle.laws.specs.Spelling.{Coder, atEnd, join, took, spell, counted, byteFor, gave, unspell}
-use Rattle.laws.proofs.Search.{first-hit}
-use Rattle.laws.proofs.Elements.{alike-true}
+use Rattle.laws.proofs.Search.{first-hit, first-most}
+use Rattle.laws.proofs.Elements.{alike-true, alike-self}
 use Rattle.laws.proofs.Strips.{push-some, push-none}
 
 pub data Drawn (k : Coder) (end : Bool) (b : ℕ) : Type 0 where
@@ -52,6 +53,14 @@ unfolding byteFor
 for-hit k end item h =
     let e : getD (counted 0 256) (byteFor k end item) 0 ≡ byteFor k end item = omega (arith, counted-at 0 256 (byteFor k end item) h) in
     rw e at (alike-true (k .drawn end (getD (counted 0 256) (byteFor k end item) 0)) item (first-hit 0 (λ b. alike (k .drawn end b) item) (counted 0 256) (rw (counted-length 0 256) h)))
+
+pub for-own : (k : Coder) (end : Bool) (item : List ℕ) (b : ℕ) → k .drawn end b ≡ item → b < 256 → ((a : ℕ) → k .drawn end a ≡ item → a ≡ b) → byteFor k end item ≡ b
+unfolding byteFor
+for-own k end item b e h only =
+    let at : getD (counted 0 256) b 0 ≡ b = omega (arith, counted-at 0 256 b h) in
+    let here : alike (k .drawn end (getD (counted 0 256) b 0)) item ≡ true = rw (at, e) (alike-self item) in
+    let low : byteFor k end item ≤ b = first-most 0 (λ a. alike (k .drawn end a) item) (counted 0 256) b (rw (counted-length 0 256) h) here in
+    only (byteFor k end item) (for-hit k end item (omega arith))
 
 -- ---- one step each way
 

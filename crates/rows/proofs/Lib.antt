@@ -1,0 +1,4 @@
+pub mod Coders
+pub mod Proper
+pub mod Ends
+pub mod Undo

@@ -1,0 +1,5 @@
+pub mod Limits
+pub mod Coders
+pub mod Checks
+pub mod Symbologies
+pub mod Rows

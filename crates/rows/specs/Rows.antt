@@ -1,0 +1,116 @@
+-- Data to row and row to data, with document 01's refusals in its order. A row is the drawn characters, as values.
+--
+--   Outcome     a list, or the answer that turns the input away
+--   rowOfField  a job record's field with its count: 1, 2, 3, 13, 4, 5, 6, 7, then the row
+--   rowOf       plain data: a field of just its length, so that 13 can't come
+--   dataOf      a row to its data: 1, 2, 9 (the mode gives no such drawn count), 12, 7, then the data
+use mathlib.Core.Bool.{Bool, true, false, _&&_, not}
+use mathlib.Core.List.{List, [], _∷_, _++_}
+use Prim.Native.Nat.{ℕ, _+_, _-_, _%_}
+use lib.Dec.{eqb, ltb, leb}
+use lib.ListN.{length, take, drop}
+use Rattle.laws.specs.Search.{pick, first}
+use Rattle.laws.specs.Units.{Reading, found, stopped}
+use Rattle.laws.specs.Spelling.{spell, unspell}
+use Rattle.words.specs.declared.DataPlace.{DataPlace}
+use Rattle.words.specs.declared.CharPlace.{CharPlace}
+use Rattle.words.specs.declared.Answer.{Answer}
+use Rattle.words.specs.declared.Answer.the-variants.{NoSymbology, NoMode, BadCount, BadByte, OddCount, TooManyDrawn, BadCheck, BadLength, NoExpansion, FieldNotZero}
+use Rattle.tables.specs.Alphabet.{size, valueOf, byteOf}
+use Rattle.rows.specs.Limits.{offered, holds}
+use Rattle.rows.specs.Checks.{front, final, checkOf, passes}
+use Rattle.rows.specs.Symbologies.{Symbology, symbologyOf}
+
+pub data Outcome : Type 0 where
+  gives : List ℕ → Outcome
+  turned : Answer → Outcome
+
+abbrev pub dataPlace : ℕ → DataPlace
+dataPlace i = record { 0 = i }
+
+abbrev pub charPlace : ℕ → CharPlace
+charPlace i = record { 0 = i }
+
+abbrev pub odd : Symbology → ℕ → Bool
+odd y n = y .even && eqb (n % 2) 1
+
+-- the last character of a row is not its check: its index among the drawn characters
+abbrev pub wrongCheck : List ℕ → Outcome
+wrongCheck r = turned (BadCheck (charPlace (length r - 1)))
+
+-- ---- drawing
+
+-- in mode 1 the last byte is the check, a raw character; the bytes before it are spelled
+abbrev pub bodyOf : ℕ → List ℕ → List ℕ
+bodyOf m d = pick (eqb m 1) (front d) d
+
+abbrev pub raw : Symbology → ℕ → List ℕ → Bool
+raw y m d = pick (eqb m 1) (ltb (valueOf (y .alphabet) (final d)) (size (y .alphabet))) true
+
+-- what is drawn behind the spelled characters: nothing, the check that was given, or the check worked out
+abbrev pub ending : Symbology → ℕ → List ℕ → List ℕ → List ℕ
+ending y m d h = pick (eqb m 0) [] (pick (eqb m 1) (valueOf (y .alphabet) (final d) ∷ []) (checkOf (y .rule) h ∷ []))
+
+-- 5, 6, 7
+abbrev pub judged : Symbology → ℕ → List ℕ → Outcome
+judged y m r =
+    pick (odd y (length r)) (turned OddCount)
+    (pick (ltb (y .room) (length r)) (turned TooManyDrawn)
+    (pick (passes (y .rule) m r) (gives r) (wrongCheck r)))
+
+-- 4
+abbrev pub spelled : Symbology → ℕ → List ℕ → Reading → Outcome
+spelled y m d (stopped i) = turned (BadByte (dataPlace i))
+spelled y m d (found h) = pick (raw y m d) (judged y m (h ++ ending y m d h)) (turned (BadByte (dataPlace (length d - 1))))
+
+unfoldable pub drawnRow : Symbology → ℕ → List ℕ → Outcome
+drawnRow y m d = spelled y m d (spell (y .coder) true 0 (bodyOf m d))
+
+-- the index of the first byte that is not zero, or the length
+abbrev pub nonzero : List ℕ → ℕ
+nonzero rest = first (λ b. not (eqb b 0)) rest
+
+-- 1, 2, 3, 13
+unfoldable pub rowOfField : ℕ → ℕ → ℕ → List ℕ → Outcome
+rowOfField s m count field =
+    pick (not (symbologyOf s .limits .known)) (turned NoSymbology)
+    (pick (not (offered (symbologyOf s .limits) m)) (turned NoMode)
+    (pick (not (holds (symbologyOf s .limits) m count && leb count (length field))) (turned BadCount)
+    (pick (ltb (nonzero (drop count field)) (length (drop count field))) (turned (FieldNotZero (dataPlace (count + nonzero (drop count field)))))
+    (drawnRow (symbologyOf s) m (take count field)))))
+
+unfoldable pub rowOf : ℕ → ℕ → List ℕ → Outcome
+rowOf s m d = rowOfField s m (length d) d
+
+-- ---- reading
+
+-- in modes 1 and 2 the last character is the check; those before it are a whole spelling
+abbrev pub headOf : ℕ → List ℕ → List ℕ
+headOf m r = pick (eqb m 0) r (front r)
+
+-- mode 1 hands the check back, mode 2 does not
+abbrev pub kept : Symbology → ℕ → List ℕ → List ℕ
+kept y m r = pick (eqb m 1) (byteOf (y .alphabet) (final r) ∷ []) []
+
+-- the check that mode 2 adds to the data
+abbrev pub added : ℕ → ℕ
+added m = pick (eqb m 2) 1 0
+
+-- a drawn count that the mode can give
+abbrev pub drawable : Symbology → ℕ → ℕ → Bool
+drawable y m n = holds (y .limits) m (n - added m) && not (odd y n)
+
+-- 12, 7
+abbrev pub unspelled : Symbology → ℕ → List ℕ → Reading → Outcome
+unspelled y m r (stopped i) = turned (NoExpansion (charPlace i))
+unspelled y m r (found d) = pick (passes (y .rule) m r) (gives (d ++ kept y m r)) (wrongCheck r)
+
+unfoldable pub readRow : Symbology → ℕ → List ℕ → Outcome
+readRow y m r = unspelled y m r (unspell (y .coder) true 0 (headOf m r))
+
+unfoldable pub dataOf : ℕ → ℕ → List ℕ → Outcome
+dataOf s m r =
+    pick (not (symbologyOf s .limits .known)) (turned NoSymbology)
+    (pick (not (offered (symbologyOf s .limits) m)) (turned NoMode)
+    (pick (not (drawable (symbologyOf s) m (length r))) (turned BadLength)
+    (readRow (symbologyOf s) m r)))
