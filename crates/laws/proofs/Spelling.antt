@@ -9,11 +9,13 @@
 --   spell-iff       both
 --   spell-long      there are at least as many characters as bytes
 --   spell-same      and just as many where no byte draws a pair
+--   Below, below, below-at    every entry is below a bound; by a test; at an index
+--   spell-below     every character is below a bound where every drawn one is
 --
 -- Assumes nothing.
 use mathlib.Core.Path.{_≡_, refl, sym, ap, _∙_}
 use mathlib.Core.Logic.{_≢_, _↔_}
-use mathlib.Core.Bool.{Bool, true, false}
+use mathlib.Core.Bool.{Bool, true, false, _&&_}
 use mathlib.Core.List.{List, [], _∷_, _++_}
 use Prim.Native.Nat.{ℕ, zero, suc, _+_, _<_, _≤_}
 use native.Mathlib.Omega.{arith}
@@ -25,6 +27,7 @@ use Rattle.laws.specs.Search.{pick, first}
 use Rattle.laws.specs.Elements.{alike}
 use Rattle.laws.specs.Units.{Reading, found, stopped, push}
 use Rattle.laws.specs.Spelling.{Coder, atEnd, join, took, spell, counted, byteFor, gave, unspell}
+use Rattle.laws.proofs.Finite.{both-left, both-right}
 use Rattle.laws.proofs.Search.{first-hit, first-most}
 use Rattle.laws.proofs.Elements.{alike-true, alike-self}
 use Rattle.laws.proofs.Strips.{push-some, push-none}
@@ -213,3 +216,39 @@ spell-same k l [] h start at e = rw (← found-nil h e)
 spell-same k l (b ∷ bs) h start at e =
     same-step at (k .drawn (atEnd start bs) b) (spell k false (suc at) bs) h (length bs) (l (atEnd start bs) b)
     (λ g p. spell-same k l bs g false (suc at) p) e
+
+-- ---- how large
+
+abbrev pub Below : ℕ → List ℕ → Type 0
+Below n [] = Unit {0}
+Below n (x ∷ xs) = (x < n) × Below n xs
+
+abbrev pub below-test : ℕ → List ℕ → Bool
+below-test n [] = true
+below-test n (x ∷ xs) = let t = below-test n xs in ltb x n && t
+
+pub below : (n : ℕ) (xs : List ℕ) → below-test n xs ≡ true → Below n xs
+below n [] e = tt
+below n (x ∷ xs) e = (ltb-true x n (both-left (ltb x n) (below-test n xs) e), below n xs (both-right (ltb x n) (below-test n xs) e))
+
+pub below-at : (n : ℕ) (xs : List ℕ) (i : ℕ) → Below n xs → i < length xs → getD xs i 0 < n
+below-at n [] i b h = absurd (not-suc-le-zero h)
+below-at n (x ∷ xs) zero b h = b .0
+below-at n (x ∷ xs) (suc i) b h = below-at n xs i (b .1) (le-of-suc-le-suc h)
+
+below-join : (n : ℕ) (cs : List ℕ) (z : Reading) (h : List ℕ) → Below n cs → ((g : List ℕ) → z ≡ found g → Below n g) → join cs z ≡ found h → Below n h
+below-join n [] z h b ih e = ih h e
+below-join n (c ∷ cs) z [] b ih e = tt
+below-join n (c ∷ cs) z (x ∷ g) b ih e =
+    let q : (c ≡ x) × (join cs z ≡ found g) = push-some c (join cs z) x g e in
+    (rw (← q .0) (b .0), below-join n cs z g (b .1) ih (q .1))
+
+below-step : (n at : ℕ) (p : List ℕ) (z : Reading) (h : List ℕ) → Below n p → ((g : List ℕ) → z ≡ found g → Below n g) → took at p z ≡ found h → Below n h
+below-step n at [] z h b ih e = let q : _≡_ {A = ℕ} 0 1 = cc in absurd (omega arith)
+below-step n at (c ∷ cs) z h b ih e = below-join n (c ∷ cs) z h b ih e
+
+pub spell-below : (k : Coder) (n : ℕ) → ((end : Bool) (b : ℕ) → Below n (k .drawn end b)) → (d h : List ℕ) (start : Bool) (at : ℕ) → spell k start at d ≡ found h → Below n h
+spell-below k n l [] h start at e = rw (← found-nil h e) tt
+spell-below k n l (b ∷ bs) h start at e =
+    below-step n at (k .drawn (atEnd start bs) b) (spell k false (suc at) bs) h (l (atEnd start bs) b)
+    (λ g p. spell-below k n l bs g false (suc at) p) e

@@ -6,12 +6,13 @@
 --   catches       so a row that passes does not pass with one value replaced by another
 --   swapped       two neighbours exchanged: when the sum's remainder stays
 --   one-check     exactly one value below the modulus passes as the check
---   inverses-turns, inverses-append     weights that have inverses
+--   inverses-turns, inverses-append, inverses-reverse     weights that have inverses
+--   length-turns  as many weights as were asked for
 --
 -- A row passes where its weighted sum is 0 by the modulus. All of it rests on `balance`. Assumes nothing.
 use mathlib.Core.Path.{_≡_, refl, sym, ap, _∙_}
 use mathlib.Core.Logic.{_≢_, _↔_}
-use mathlib.Core.List.{List, [], _∷_, _++_}
+use mathlib.Core.List.{List, [], _∷_, _++_, reverse, reverseAux}
 use Prim.Native.Nat.{ℕ, zero, suc, _+_, _*_, _%_, _<_, _≤_}
 use native.Mathlib.Omega.{arith}
 use native.Mathlib.Nat.{le-of-suc-le-suc, not-suc-le-zero, mod-add-mod, add-mod-mod, mod-eq-of-lt, mul-add, mul-comm, mul-assoc, mul-left-comm, mul-one, mul-zero, zero-mod, zero-add, add-zero}
@@ -121,3 +122,14 @@ inverses-append m (w ∷ ws) vs a b = (a .0, inverses-append m ws vs (a .1) b)
 pub inverses-turns : (m w v n : ℕ) → ((u : ℕ) × (u * w % m ≡ 1)) → ((u : ℕ) × (u * v % m ≡ 1)) → Inverses m (turns w v n)
 inverses-turns m w v zero a b = tt
 inverses-turns m w v (suc n) a b = (a, inverses-turns m v w n b a)
+
+inverses-aux : (m : ℕ) (ws vs : List ℕ) → Inverses m ws → Inverses m vs → Inverses m (reverseAux ws vs)
+inverses-aux m [] vs a b = b
+inverses-aux m (w ∷ ws) vs a b = inverses-aux m ws (w ∷ vs) (a .1) (a .0, b)
+
+pub inverses-reverse : (m : ℕ) (ws : List ℕ) → Inverses m ws → Inverses m (reverse ws)
+inverses-reverse m ws a = inverses-aux m ws [] a tt
+
+pub length-turns : (w v n : ℕ) → length (turns w v n) ≡ n
+length-turns w v zero = refl
+length-turns w v (suc n) = ap suc (length-turns v w n)

@@ -1,7 +1,9 @@
--- The coders are valid: what a byte draws is found again.
+-- The coders are valid: what a byte draws is found again, and is of the alphabet.
 --
---   plain-valid, codabar-valid   by the alphabets, whose bytes and values undo one another
---   full-valid                   by a test of the 256 bytes
+--   Single      no byte draws a pair
+--   Drawable    every drawn character is one of the alphabet
+--   plain39, plain-digits, codabar-all    by the alphabets, whose bytes and values undo one another
+--   full-valid, full-drawable             by a test of the 256 bytes
 --
 -- Assumes nothing.
 use mathlib.Core.Path.{_≡_, refl, sym, ap, _∙_}
@@ -19,7 +21,7 @@ use Rattle.laws.specs.Spelling.{Coder, counted, byteFor}
 use Rattle.laws.proofs.Finite.{both-left, both-right, upto, upto-at, every, every-at}
 use Rattle.laws.proofs.Search.{first-most}
 use Rattle.laws.proofs.Elements.{alike-self}
-use Rattle.laws.proofs.Spelling.{Drawn, none, alone, pair, Valid, for-own}
+use Rattle.laws.proofs.Spelling.{Drawn, none, alone, pair, Valid, for-own, Below, below-test, below}
 use Rattle.tables.specs.Alphabet.{Alphabet, size, valueOf, byteOf}
 use Rattle.tables.specs.Code39.{chars39, table42, alphabet39}
 use Rattle.tables.specs.Codabar.{table41, alphabetCodabar}
@@ -55,6 +57,13 @@ module _ (a : Alphabet) (p : Proper a) (small : (b : ℕ) → valueOf a b < size
       go true = omega arith
       go false = omega arith
 
+  below-each : (end : Bool) (b : ℕ) → Below (size a) (alphabetic a allowed .drawn end b)
+  below-each end b = go (allowed end (valueOf a b)) refl
+    where
+      go : (t : Bool) → allowed end (valueOf a b) ≡ t → Below (size a) (single t (valueOf a b))
+      go true e = (in-it end (valueOf a b) e, tt)
+      go false e = tt
+
 -- the bytes of a table are bytes
 small-by : (a : Alphabet) → Proper a → every 0 (λ v b. ltb b 256) 0 (a .chars) ≡ true → (b : ℕ) → valueOf a b < size a → b < 256
 unfolding byteOf
@@ -66,18 +75,22 @@ small-by a p t b h =
 abbrev pub Single : Coder → Type 0
 Single k = (end : Bool) (b : ℕ) → length (k .drawn end b) ≤ 1
 
-plain-all : (a : Alphabet) → Proper a → every 0 (λ v b. ltb b 256) 0 (a .chars) ≡ true → Valid (plain a) × Single (plain a)
+-- every drawn character is one of the alphabet
+abbrev pub Drawable : Alphabet → Coder → Type 0
+Drawable a k = (end : Bool) (b : ℕ) → Below (size a) (k .drawn end b)
+
+plain-all : (a : Alphabet) → Proper a → every 0 (λ v b. ltb b 256) 0 (a .chars) ≡ true → Valid (plain a) × Single (plain a) × Drawable a (plain a)
 unfolding plain
 plain-all a p t =
     let allowed : Bool → ℕ → Bool = λ end v. ltb v (size a) in
     let in-it : (end : Bool) (v : ℕ) → ltb v (size a) ≡ true → v < size a = λ end v e. ltb-true v (size a) e in
-    (valid a p (small-by a p t) allowed in-it, alone-each a p (small-by a p t) allowed in-it)
+    (valid a p (small-by a p t) allowed in-it, alone-each a p (small-by a p t) allowed in-it, below-each a p (small-by a p t) allowed in-it)
 
-pub plain39 : Valid (plain alphabet39) × Single (plain alphabet39)
+pub plain39 : Valid (plain alphabet39) × Single (plain alphabet39) × Drawable alphabet39 (plain alphabet39)
 unfolding alphabet39 chars39
 plain39 = plain-all alphabet39 proper39 refl
 
-pub plain-digits : Valid (plain alphabetDigits) × Single (plain alphabetDigits)
+pub plain-digits : Valid (plain alphabetDigits) × Single (plain alphabetDigits) × Drawable alphabetDigits (plain alphabetDigits)
 unfolding alphabetDigits table44
 plain-digits = plain-all alphabetDigits proper-digits refl
 
@@ -85,11 +98,11 @@ placed-in : (end : Bool) (v : ℕ) → placed end v ≡ true → v < 20
 placed-in true v e = ltb-true v 20 (both-right (leb 16 v) (ltb v 20) e)
 placed-in false v e = omega (arith, ltb-true v 16 e)
 
-pub codabar-all : Valid codabarCoder × Single codabarCoder
+pub codabar-all : Valid codabarCoder × Single codabarCoder × Drawable alphabetCodabar codabarCoder
 unfolding codabarCoder alphabetCodabar table41
 codabar-all =
     let s : (b : ℕ) → valueOf alphabetCodabar b < 20 → b < 256 = small-by alphabetCodabar proper-codabar refl in
-    (valid alphabetCodabar proper-codabar s placed placed-in, alone-each alphabetCodabar proper-codabar s placed placed-in)
+    (valid alphabetCodabar proper-codabar s placed placed-in, alone-each alphabetCodabar proper-codabar s placed placed-in, below-each alphabetCodabar proper-codabar s placed placed-in)
 
 -- ---- full ASCII
 
@@ -138,3 +151,15 @@ full-valid end b = go (decLt b 256)
     go : Dec (b < 256) → Drawn fullCoder end b
     go (yes h) = full-view end b (fullCoder .drawn end b) refl (upto-at 256 (λ b. fine b (fullCoder .drawn true b)) all-fine b h) h
     go (no h) = none (full-past end b (omega arith))
+
+all-below : upto 256 (λ b. below-test 43 (fullCoder .drawn true b)) ≡ true
+unfolding fullCoder valueOf alphabet39 chars39 indexIn drawing ranges
+all-below = refl
+
+pub full-drawable : Drawable alphabet39 fullCoder
+unfolding fullCoder alphabet39 chars39
+full-drawable end b = go (decLt b 256)
+  where
+    go : Dec (b < 256) → Below 43 (fullCoder .drawn end b)
+    go (yes h) = below 43 (fullCoder .drawn end b) (upto-at 256 (λ b. below-test 43 (fullCoder .drawn true b)) all-below b h)
+    go (no h) = rw (full-past end b (omega arith)) tt

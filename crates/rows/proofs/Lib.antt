@@ -1,4 +1,6 @@
 pub mod Coders
-pub mod Proper
 pub mod Ends
+pub mod Checks
+pub mod Proper
 pub mod Undo
+pub mod Catches

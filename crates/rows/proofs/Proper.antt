@@ -2,12 +2,12 @@
 --
 --   Counts     of a mode that is offered: it takes at least one byte, and what it draws fits the room
 --   Loose      where a byte may draw a pair: the room is all that a mode takes, and nothing but a first byte is asked for
---   Proper     a valid coder, a proper alphabet, checks that are characters, and those counts
+--   Proper     a valid coder, a proper alphabet, checks that are characters, a sound rule where there is one, those counts
 --   proper     every symbology is proper
 --
 -- Assumes nothing.
 use mathlib.Core.Path.{_≡_, refl, sym, _∙_}
-use mathlib.Core.Logic.{_⊎_, inl, inr}
+use mathlib.Core.Logic.{_⊎_, inl, inr, _≢_}
 use mathlib.Core.Bool.{Bool, true, false, _&&_}
 use mathlib.Core.List.{List, [], _∷_}
 use Prim.Native.Nat.{ℕ, zero, suc, _+_, _-_, _%_, _<_, _≤_}
@@ -18,7 +18,7 @@ use lib.Dec.{eqb, ltb, leb, lit<}
 use lib.ListN.{length, getD, List·getD-eq-default}
 use borrow.Author.Tests.{ltb-true, leb-true, eqb-true}
 use Rattle.laws.specs.Search.{pick}
-use Rattle.laws.proofs.Finite.{both-left, both-right, upto, upto-at, Each, each-at}
+use Rattle.laws.proofs.Finite.{both-left, both-right, upto, upto-at, line, Each, each-at}
 use Rattle.laws.proofs.Spelling.{Valid}
 use Rattle.tables.specs.Alphabet.{Alphabet, size}
 use Rattle.tables.specs.Code39.{chars39, table42, alphabet39}
@@ -31,7 +31,8 @@ use Rattle.rows.specs.Coders.{plain, fullCoder}
 use Rattle.rows.specs.Checks.{Rule, by43, left10, right10, noCheck}
 use Rattle.rows.specs.Symbologies.{Symbology, digits, code39, codabar, symbologies, symbologyOf}
 use Rattle.rows.specs.Rows.{added}
-use Rattle.rows.proofs.Coders.{Single, plain39, plain-digits, codabar-all, full-valid}
+use Rattle.rows.proofs.Coders.{Single, Drawable, plain39, plain-digits, codabar-all, full-valid, full-drawable}
+use Rattle.rows.proofs.Checks.{Sound, sound43, sound-left, sound-right}
 
 -- the byte that mode 1 does not spell
 abbrev pub given : ℕ → ℕ
@@ -51,6 +52,8 @@ pub record Proper (y : Symbology) : Type 0 where
   pub alphabet : Alphabets.Proper (y .alphabet)
   pub check : (sum : ℕ) → y .rule .check sum < size (y .alphabet)
   pub counts : (m : ℕ) → offered (y .limits) m ≡ true → Counts y m
+  pub drawable : Drawable (y .alphabet) (y .coder)
+  pub sound : (m : ℕ) → offered (y .limits) m ≡ true → m ≢ 0 → Sound (y .rule) (size (y .alphabet))
   pub spread : Single (y .coder) ⊎ ((m : ℕ) → offered (y .limits) m ≡ true → Loose y m)
 
 -- ---- the counts, by tests of the three modes
@@ -92,30 +95,42 @@ module _ (y : Symbology) (l : length (y .limits .most) ≡ 3) where
 
 -- ---- each symbology
 
+-- modes 1 and 2 are not offered
+checkless : (l : Limits) (r : Rule) (n : ℕ) → length (l .most) ≡ 3 → upto 2 (λ i. eqb (getD (l .most) (suc i) 0) 0) ≡ true
+    → (m : ℕ) → offered l m ≡ true → m ≢ 0 → Sound r n
+checkless l r n k t zero o z = absurd (z refl)
+checkless l r n k t (suc m) o z = go (decLt m 2)
+  where
+    go : Dec (m < 2) → Sound r n
+    go (yes h) = absurd (omega (arith, line 2 (λ i. getD (l .most) (suc i) 0) (λ i. 0) t m h, ltb-true 0 (getD (l .most) (suc m) 0) o))
+    go (no h) = absurd (omega (arith, List·getD-eq-default (l .most) 0 {n = suc m} (omega arith), ltb-true 0 (getD (l .most) (suc m) 0) o))
+
 ten : (sum : ℕ) → (10 - sum % 10) % 10 < 10
 ten sum = mod-lt (10 - sum % 10) (omega arith)
 
-digital : (l : Limits) (r : Rule) (e : Bool) → ((sum : ℕ) → r .check sum < 10) → length (l .most) ≡ 3 → upto 3 (count-test (digits l r e)) ≡ true → Proper (digits l r e)
+digital : (l : Limits) (r : Rule) (e : Bool) → ((sum : ℕ) → r .check sum < 10) → ((m : ℕ) → offered l m ≡ true → m ≢ 0 → Sound r 10) → length (l .most) ≡ 3 → upto 3 (count-test (digits l r e)) ≡ true → Proper (digits l r e)
 unfolding alphabetDigits table44
-digital l r e c n t = record {
+digital l r e c s n t = record {
   valid = plain-digits .0;
   alphabet = Alphabets.proper-digits;
   check = c;
   counts = counted (digits l r e) n t;
+  drawable = plain-digits .2;
+  sound = s;
   spread = inl (plain-digits .1);
 }
 
 proper-none : Proper (digits unknown noCheck false)
 unfolding noCheck
-proper-none = digital unknown noCheck false (λ sum. lit< tt) refl refl
+proper-none = digital unknown noCheck false (λ sum. lit< tt) (checkless unknown noCheck 10 refl refl) refl refl
 
 by-left : (e : Bool) → Proper (digits (modes (1 to 32) (2 to 32) (1 to 31)) left10 e)
 unfolding left10
-by-left e = digital (modes (1 to 32) (2 to 32) (1 to 31)) left10 e ten refl refl
+by-left e = digital (modes (1 to 32) (2 to 32) (1 to 31)) left10 e ten (λ m o n. sound-left) refl refl
 
 by-right : (l : Limits) → length (l .most) ≡ 3 → upto 3 (count-test (digits l right10 false)) ≡ true → Proper (digits l right10 false)
 unfolding right10
-by-right l n t = digital l right10 false ten n t
+by-right l n t = digital l right10 false ten (λ m o n. sound-right) n t
 
 proper39 : Proper (code39 (plain alphabet39) 34)
 unfolding by43 alphabet39 chars39
@@ -124,6 +139,8 @@ proper39 = record {
   alphabet = Alphabets.proper39;
   check = λ sum. mod-lt sum (lit< tt);
   counts = counted (code39 (plain alphabet39) 34) refl refl;
+  drawable = plain39 .2;
+  sound = λ m o n. sound43;
   spread = inl (plain39 .1);
 }
 
@@ -134,6 +151,8 @@ proper-full = record {
   alphabet = Alphabets.proper39;
   check = λ sum. mod-lt sum (lit< tt);
   counts = counted (code39 fullCoder 32) refl refl;
+  drawable = full-drawable;
+  sound = λ m o n. sound43;
   spread = inr (loosened (code39 fullCoder 32) refl refl);
 }
 
@@ -144,6 +163,8 @@ proper-codabar = record {
   alphabet = Alphabets.proper-codabar;
   check = λ sum. lit< tt;
   counts = counted codabar refl refl;
+  drawable = codabar-all .2;
+  sound = checkless (modes (3 to 34) none none) noCheck 20 refl refl;
   spread = inl (codabar-all .1);
 }
 

@@ -2,6 +2,7 @@
 -- back, and the check behind it.
 --
 --   undo          rowOf s m d gives r exactly if dataOf s m r gives d
+--   Reads, reads    what a row that reads has passed
 --   same-data     so two data that give one row are the same, zeros at the front counted
 --
 -- Assumes nothing.
@@ -90,11 +91,11 @@ drawn y m d r w =
     rw (w .spells, w .rawly, w .is, w .paired, l, w .passing)
 
 -- a row that reads, and what it passed
-record Undrew (y : Symbology) (m : ℕ) (d r : List ℕ) : Type 0 where
-  body : List ℕ
-  spells : unspell (y .coder) true 0 (headOf m r) ≡ found body
-  is : body ++ kept y m r ≡ d
-  passing : passes (y .rule) m r ≡ true
+pub record Undrew (y : Symbology) (m : ℕ) (d r : List ℕ) : Type 0 where
+  pub body : List ℕ
+  pub spells : unspell (y .coder) true 0 (headOf m r) ≡ found body
+  pub is : body ++ kept y m r ≡ d
+  pub passing : passes (y .rule) m r ≡ true
 
 undrew-from : (y : Symbology) (m : ℕ) (d r : List ℕ) (z : Reading) → unspell (y .coder) true 0 (headOf m r) ≡ z → unspelled y m r z ≡ gives d → Undrew y m d r
 undrew-from y m d r (stopped i) s e = let q : _≡_ {A = ℕ} 0 1 = cc in absurd (omega arith)
@@ -304,47 +305,68 @@ both-true a b p q = rw (p, q)
 empty-rest : (d : List ℕ) → ltb (nonzero (drop (length d) d)) (length (drop (length d) d)) ≡ false
 empty-rest d = rw drop-length
 
-module _ (s m : ℕ) (d r : List ℕ) where
-  there : rowOf s m d ≡ gives r → dataOf s m r ≡ gives d
-  unfolding rowOf rowOfField dataOf
-  there e =
-      let y : Symbology = symbologyOf s in
-      let a : (not (y .limits .known) ≡ false) × (_ ≡ gives r) = past-turned (not (y .limits .known)) NoSymbology _ r e in
-      let b : (not (offered (y .limits) m) ≡ false) × (_ ≡ gives r) = past-turned (not (offered (y .limits) m)) NoMode _ r (a .1) in
-      let c : (not (holds (y .limits) m (length d) && leb (length d) (length d)) ≡ false) × (_ ≡ gives r)
-      = past-turned (not (holds (y .limits) m (length d) && leb (length d) (length d))) BadCount _ r (b .1) in
-      let f : (ltb (nonzero (drop (length d) d)) (length (drop (length d) d)) ≡ false) × (drawnRow y m (take (length d) d) ≡ gives r)
-      = past-turned (ltb (nonzero (drop (length d) d)) (length (drop (length d) d))) _ _ r (c .1) in
-      let o : offered (y .limits) m ≡ true = not-false _ (b .0) in
-      let h : holds (y .limits) m (length d) ≡ true = both-left (holds (y .limits) m (length d)) (leb (length d) (length d)) (not-false _ (c .0)) in
-      let n : Counts y m = proper s .counts m o in
-      let l : 0 < length d = omega (arith, n .some, held (y .limits) m (length d) h .0) in
-      let w : Drew y m d r = drew y m d r (rw take-length at (f .1)) in
-      let z : Sizes y m d r = sizes y m d r (n .mode) l w in
-      let k : holds (y .limits) m (length r - added m) ≡ true = holds-forth y (proper s) m d r o z (w .fits) h in
-      let v : not (odd y (length r)) ≡ true = rw (w .paired) in
-      reads-on (symbologyOf s .limits .known) _ _ _ d (not-false _ (a .0)) o (both-true _ _ k v)
-      (undrawn y m d r (forth y (proper s) m d r (n .mode) l w))
+there : (s m : ℕ) (d r : List ℕ) → rowOf s m d ≡ gives r → dataOf s m r ≡ gives d
+unfolding rowOf rowOfField dataOf
+there s m d r e =
+    let y : Symbology = symbologyOf s in
+    let a : (not (y .limits .known) ≡ false) × (_ ≡ gives r) = past-turned (not (y .limits .known)) NoSymbology _ r e in
+    let b : (not (offered (y .limits) m) ≡ false) × (_ ≡ gives r) = past-turned (not (offered (y .limits) m)) NoMode _ r (a .1) in
+    let c : (not (holds (y .limits) m (length d) && leb (length d) (length d)) ≡ false) × (_ ≡ gives r)
+    = past-turned (not (holds (y .limits) m (length d) && leb (length d) (length d))) BadCount _ r (b .1) in
+    let f : (ltb (nonzero (drop (length d) d)) (length (drop (length d) d)) ≡ false) × (drawnRow y m (take (length d) d) ≡ gives r)
+    = past-turned (ltb (nonzero (drop (length d) d)) (length (drop (length d) d))) _ _ r (c .1) in
+    let o : offered (y .limits) m ≡ true = not-false _ (b .0) in
+    let h : holds (y .limits) m (length d) ≡ true = both-left (holds (y .limits) m (length d)) (leb (length d) (length d)) (not-false _ (c .0)) in
+    let n : Counts y m = proper s .counts m o in
+    let l : 0 < length d = omega (arith, n .some, held (y .limits) m (length d) h .0) in
+    let w : Drew y m d r = drew y m d r (rw take-length at (f .1)) in
+    let z : Sizes y m d r = sizes y m d r (n .mode) l w in
+    let k : holds (y .limits) m (length r - added m) ≡ true = holds-forth y (proper s) m d r o z (w .fits) h in
+    let v : not (odd y (length r)) ≡ true = rw (w .paired) in
+    reads-on (symbologyOf s .limits .known) _ _ _ d (not-false _ (a .0)) o (both-true _ _ k v)
+    (undrawn y m d r (forth y (proper s) m d r (n .mode) l w))
 
-  back-again : dataOf s m r ≡ gives d → rowOf s m d ≡ gives r
-  unfolding rowOf rowOfField dataOf
-  back-again e =
-      let y : Symbology = symbologyOf s in
-      let a : (not (y .limits .known) ≡ false) × (_ ≡ gives d) = past-turned (not (y .limits .known)) NoSymbology _ d e in
-      let b : (not (offered (y .limits) m) ≡ false) × (_ ≡ gives d) = past-turned (not (offered (y .limits) m)) NoMode _ d (a .1) in
-      let c : (not (drawable y m (length r)) ≡ false) × (readRow y m r ≡ gives d) = past-turned (not (drawable y m (length r))) BadLength _ d (b .1) in
-      let o : offered (y .limits) m ≡ true = not-false _ (b .0) in
-      let t : (holds (y .limits) m (length r - added m) && not (odd y (length r))) ≡ true = not-false _ (c .0) in
-      let h : holds (y .limits) m (length r - added m) ≡ true = both-left (holds (y .limits) m (length r - added m)) (not (odd y (length r))) t in
-      let q : odd y (length r) ≡ false = not-true _ (both-right (holds (y .limits) m (length r - added m)) (not (odd y (length r))) t) in
-      let n : Counts y m = proper s .counts m o in
-      let g : (getD (y .limits .least) m 0 ≤ length r - added m) × (length r - added m ≤ getD (y .limits .most) m 0) = held (y .limits) m (length r - added m) h in
-      let u : Undrew y m d r = undrew y m d r (c .1) in
-      let l : 0 < length d = some-data y m d r (n .mode) (omega (arith, n .some, g .0)) u in
-      let w : Drew y m d r = back y (proper s) m d r (n .mode) (omega (arith, n .some, g .0)) q (omega (arith, n .cap, n .some, g .0, g .1)) u in
-      let k : holds (y .limits) m (length d) ≡ true = holds-back y (proper s) m d r o (sizes y m d r (n .mode) l w) h in
-      let v : drawnRow y m (take (length d) d) ≡ gives r = rw take-length (drawn y m d r w) in
-      draws-on (symbologyOf s .limits .known) _ _ _ (FieldNotZero (dataPlace (length d + nonzero (drop (length d) d)))) _ r (not-false _ (a .0)) o (both-true _ _ k (le-leb (length d) (length d) (omega arith))) (empty-rest d) v
+-- a row that reads, and all that it passed
+pub record Reads (s m : ℕ) (d r : List ℕ) : Type 0 where
+  pub known : symbologyOf s .limits .known ≡ true
+  pub offers : offered (symbologyOf s .limits) m ≡ true
+  pub count : holds (symbologyOf s .limits) m (length r - added m) ≡ true
+  pub paired : odd (symbologyOf s) (length r) ≡ false
+  pub row : Undrew (symbologyOf s) m d r
+  pub some : 0 < length r - added m
+
+pub reads : (s m : ℕ) (d r : List ℕ) → dataOf s m r ≡ gives d → Reads s m d r
+unfolding dataOf
+reads s m d r e =
+    let y : Symbology = symbologyOf s in
+    let a : (not (y .limits .known) ≡ false) × (_ ≡ gives d) = past-turned (not (y .limits .known)) NoSymbology _ d e in
+    let b : (not (offered (y .limits) m) ≡ false) × (_ ≡ gives d) = past-turned (not (offered (y .limits) m)) NoMode _ d (a .1) in
+    let c : (not (drawable y m (length r)) ≡ false) × (readRow y m r ≡ gives d) = past-turned (not (drawable y m (length r))) BadLength _ d (b .1) in
+    let o : offered (y .limits) m ≡ true = not-false _ (b .0) in
+    let t : (holds (y .limits) m (length r - added m) && not (odd y (length r))) ≡ true = not-false _ (c .0) in
+    let h : holds (y .limits) m (length r - added m) ≡ true = both-left (holds (y .limits) m (length r - added m)) (not (odd y (length r))) t in
+    record {
+      known = not-false _ (a .0);
+      offers = o;
+      count = h;
+      paired = not-true _ (both-right (holds (y .limits) m (length r - added m)) (not (odd y (length r))) t);
+      row = undrew y m d r (c .1);
+      some = omega (arith, proper s .counts m o .some, held (y .limits) m (length r - added m) h .0);
+    }
+
+back-again : (s m : ℕ) (d r : List ℕ) → dataOf s m r ≡ gives d → rowOf s m d ≡ gives r
+unfolding rowOf rowOfField
+back-again s m d r e =
+    let y : Symbology = symbologyOf s in
+    let a : Reads s m d r = reads s m d r e in
+    let n : Counts y m = proper s .counts m (a .offers) in
+    let g : (getD (y .limits .least) m 0 ≤ length r - added m) × (length r - added m ≤ getD (y .limits .most) m 0) = held (y .limits) m (length r - added m) (a .count) in
+    let l : 0 < length d = some-data y m d r (n .mode) (a .some) (a .row) in
+    let w : Drew y m d r = back y (proper s) m d r (n .mode) (omega (arith, a .some)) (a .paired) (omega (arith, n .cap, a .some, g .1)) (a .row) in
+    let k : holds (y .limits) m (length d) ≡ true = holds-back y (proper s) m d r (a .offers) (sizes y m d r (n .mode) l w) (a .count) in
+    let v : drawnRow y m (take (length d) d) ≡ gives r = rw take-length (drawn y m d r w) in
+    draws-on (y .limits .known) _ _ _ (FieldNotZero (dataPlace (length d + nonzero (drop (length d) d)))) _ r (a .known) (a .offers)
+    (both-true _ _ k (le-leb (length d) (length d) (omega arith))) (empty-rest d) v
 
 pub undo : (s m : ℕ) (d r : List ℕ) → (rowOf s m d ≡ gives r) ↔ (dataOf s m r ≡ gives d)
 undo s m d r = (there s m d r, back-again s m d r)

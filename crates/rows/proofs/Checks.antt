@@ -1,0 +1,105 @@
+-- What a check catches, for every symbology with a check by one argument over the modulus and the weights.
+--
+--   Sound       a rule whose check is the one value that brings the weighted sum to a multiple of the modulus
+--   sound43, soundLeft, soundRight    the three rules are
+--   one-passes  exactly one character passes behind given ones: the check as document 01 words it
+--   caught      a row that passes does not pass with one of its characters replaced by another
+--
+-- Assumes nothing.
+use mathlib.Core.Path.{_≡_, refl, sym, ap, _∙_}
+use mathlib.Core.Logic.{_↔_, _≢_}
+use mathlib.Core.List.{List, [], _∷_, _++_, reverse}
+use Prim.Native.Nat.{ℕ, zero, suc, _+_, _-_, _*_, _%_, _<_, _≤_}
+use native.Mathlib.Omega.{arith}
+use native.Mathlib.Nat.{one-mul, add-zero, mod-eq-of-lt, mod-lt}
+use lib.Dec.{lit<}
+use lib.ListN.{length, getD, set, length-reverse, length-set, length-append}
+use lib.Seq.{length-take-le}
+use Rattle.laws.specs.Weigh.{dot, turns, Inverses}
+use Rattle.laws.proofs.Weigh.{one-check, catches, inverses-append, inverses-turns, inverses-reverse, length-turns}
+use Rattle.rows.specs.Checks.{Rule, by43, left10, right10, nextTen, front, final, checkOf}
+use Rattle.rows.proofs.Ends.{front-snoc, final-snoc, whole}
+
+pub record Sound (rule : Rule) (size : ℕ) : Type 0 where
+  pub weight : ℕ
+  pub times : ℕ
+  pub modulus : rule .modulus ≡ size
+  pub above : 0 < size
+  pub brings : (weight * times + 1) % size ≡ 0
+  pub worded : (sum : ℕ) → rule .check sum ≡ times * sum % size
+  pub long : (n : ℕ) → length (rule .weights n) ≡ n
+  pub tells : (n : ℕ) → Inverses size (rule .weights n ++ (weight ∷ []))
+
+pub sound43 : Sound by43 43
+unfolding by43
+sound43 = record {
+  weight = 42;
+  times = 1;
+  modulus = refl;
+  above = lit< tt;
+  brings = refl;
+  worded = λ sum. rw one-mul;
+  long = length-turns 1 1;
+  tells = λ n. inverses-append 43 (turns 1 1 n) (42 ∷ []) (inverses-turns 43 1 1 n (1, refl) (1, refl)) ((42, refl), tt);
+}
+
+next-ten : (sum : ℕ) → nextTen sum ≡ 9 * sum % 10
+next-ten sum = omega arith
+
+pub sound-left : Sound left10 10
+unfolding left10
+sound-left = record {
+  weight = 1;
+  times = 9;
+  modulus = refl;
+  above = lit< tt;
+  brings = refl;
+  worded = next-ten;
+  long = length-turns 1 3;
+  tells = λ n. inverses-append 10 (turns 1 3 n) (1 ∷ []) (inverses-turns 10 1 3 n (1, refl) (7, refl)) ((1, refl), tt);
+}
+
+pub sound-right : Sound right10 10
+unfolding right10
+sound-right = record {
+  weight = 1;
+  times = 9;
+  modulus = refl;
+  above = lit< tt;
+  brings = refl;
+  worded = next-ten;
+  long = λ n. length-reverse (turns 3 1 n) ∙ length-turns 3 1 n;
+  tells = λ n.
+      inverses-append 10 (reverse (turns 3 1 n)) (1 ∷ []) (inverses-reverse 10 (turns 3 1 n) (inverses-turns 10 3 1 n (7, refl) (1, refl))) ((1, refl), tt);
+}
+
+module _ (rule : Rule) (size : ℕ) (s : Sound rule size) where
+  -- the weights of a whole row, the check's own last
+  abbrev pub all-weights : ℕ → List ℕ
+  all-weights n = rule .weights n ++ (s .weight ∷ [])
+
+  pub one-passes : (h : List ℕ) (x : ℕ) → x < size → (dot (all-weights (length h)) (h ++ (x ∷ [])) % size ≡ 0) ↔ (x ≡ checkOf rule h)
+  unfolding checkOf
+  one-passes h x l =
+      let c : rule .check (dot (rule .weights (length h)) h) ≡ s .times * (dot (rule .weights (length h)) h + 0) % size
+      = s .worded _ ∙ rw add-zero in
+      rw c (one-check size (s .weight) (s .times) (s .brings) (rule .weights (length h)) [] h [] (s .long (length h)) x l)
+
+  check-below : (h : List ℕ) → checkOf rule h < size
+  unfolding checkOf
+  check-below h = rw (s .worded) (mod-lt _ (s .above))
+
+  -- a row whose last character is its check weighs 0 by the modulus
+  weighs : (r : List ℕ) → 0 < length r → final r ≡ checkOf rule (front r) → dot (all-weights (length r - 1)) r % size ≡ 0
+  weighs r h e =
+      let n : length (front r) ≡ length r - 1 = length-take-le (length r - 1) r (omega arith) in
+      let b : final r < size = rw e (check-below (front r)) in
+      rw (n, whole r h) at (one-passes (front r) (final r) b .1 e)
+
+  pub caught : (r : List ℕ) (i v : ℕ) → i < length r → getD r i 0 < size → v < size → v ≢ getD r i 0
+      → final r ≡ checkOf rule (front r) → final (set r i v) ≢ checkOf rule (front (set r i v))
+  caught r i v h l k n e f =
+      let w : length (all-weights (length r - 1)) ≡ length r = length-append (rule .weights (length r - 1)) _ ∙ omega (arith, s .long (length r - 1)) in
+      let d : getD r i 0 % size ≢ v % size = λ q. n (sym (sym (mod-eq-of-lt l) ∙ q ∙ mod-eq-of-lt k)) in
+      let g : dot (all-weights (length r - 1)) (set r i v) % size ≡ 0 = rw (length-set r i v) at (weighs (set r i v) (rw (length-set r i v) (omega arith)) f) in
+      catches size (all-weights (length r - 1)) r i v (s .above) (s .tells (length r - 1)) w h d (weighs r (omega arith) e) g
