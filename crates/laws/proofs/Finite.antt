@@ -7,14 +7,16 @@
 --   grid       two numbers agree at every pair below two bounds
 --   every      a test at every entry of a list and its index; `every-at` reads it off
 --   Each       a fact of every entry of a list; `each-at` reads it off, at an entry or past them
+--   From       a fact of n numbers from lo on; `from-at` reads it off
 --
 -- Assumes nothing.
 use mathlib.Core.Path.{_≡_, refl}
 use mathlib.Core.Bool.{Bool, true, false, _&&_}
 use mathlib.Core.List.{List, [], _∷_}
-use Prim.Native.Nat.{ℕ, zero, suc, _+_, _<_}
+use Prim.Native.Nat.{ℕ, zero, suc, _+_, _<_, _≤_}
 use native.Mathlib.Omega.{arith}
 use native.Mathlib.Nat.{le-of-suc-le-suc, not-suc-le-zero, zero-add, add-zero, add-suc, suc-add}
+use native.Mathlib.Decide.{ℕ-discrete}
 use lib.Dec.{eqb}
 use lib.ListN.{length, getD}
 use borrow.Author.Tests.{eqb-true, eqb-false}
@@ -69,3 +71,16 @@ module _ {A : Type 0} (P : A → Type 0) where
   each-at [] d e p i = p
   each-at (x ∷ xs) d e p zero = e .0
   each-at (x ∷ xs) d e p (suc i) = each-at xs d (e .1) p i
+
+module _ (P : ℕ → Type 0) where
+  abbrev pub From : ℕ → ℕ → Type 0
+  From lo zero = Unit {0}
+  From lo (suc n) = P lo × From (suc lo) n
+
+  from-step : (lo n b : ℕ) → P lo → (lo < b → P b) → lo ≤ b → Dec (lo ≡ b) → P b
+  from-step lo n b p ih h (yes e) = rw (← e) p
+  from-step lo n b p ih h (no e) = ih (omega arith)
+
+  pub from-at : (lo n : ℕ) → From lo n → (b : ℕ) → lo ≤ b → b < lo + n → P b
+  from-at lo zero f b h l = absurd (omega arith)
+  from-at lo (suc n) f b h l = from-step lo n b (f .0) (λ k. from-at (suc lo) n (f .1) b k (omega arith)) h (ℕ-discrete lo b)

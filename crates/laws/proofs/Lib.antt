@@ -1,7 +1,7 @@
 pub mod Finite
-pub mod Arms
 pub mod Search
 pub mod Elements
+pub mod Arms
 pub mod Sets
 pub mod Strips
 pub mod Shapes

@@ -4,6 +4,7 @@
 --                   search finds it again
 --   for-hit         a byte that is found draws the item
 --   for-own         and where no other byte draws it, that byte is found
+--   for-none        where no byte draws an item, none is found
 --   spell-unspell   what is spelled is read back
 --   unspell-spell   what is read back spells the characters
 --   spell-iff       both
@@ -19,6 +20,7 @@ use mathlib.Core.Bool.{Bool, true, false, _&&_}
 use mathlib.Core.List.{List, [], _∷_, _++_}
 use Prim.Native.Nat.{ℕ, zero, suc, _+_, _<_, _≤_}
 use native.Mathlib.Omega.{arith}
+use native.Mathlib.Decide.{decLt}
 use native.Mathlib.Nat.{le-of-suc-le-suc, not-suc-le-zero}
 use lib.Dec.{ltb}
 use lib.ListN.{length, getD}
@@ -28,7 +30,7 @@ use Rattle.laws.specs.Elements.{alike}
 use Rattle.laws.specs.Units.{Reading, found, stopped, push}
 use Rattle.laws.specs.Spelling.{Coder, atEnd, join, took, spell, counted, byteFor, gave, unspell}
 use Rattle.laws.proofs.Finite.{both-left, both-right}
-use Rattle.laws.proofs.Search.{first-hit, first-most}
+use Rattle.laws.proofs.Search.{first-le, first-hit, first-most}
 use Rattle.laws.proofs.Elements.{alike-true, alike-self}
 use Rattle.laws.proofs.Strips.{push-some, push-none}
 
@@ -64,6 +66,14 @@ for-own k end item b e h only =
     let here : alike (k .drawn end (getD (counted 0 256) b 0)) item ≡ true = rw (at, e) (alike-self item) in
     let low : byteFor k end item ≤ b = first-most 0 (λ a. alike (k .drawn end a) item) (counted 0 256) b (rw (counted-length 0 256) h) here in
     only (byteFor k end item) (for-hit k end item (omega arith))
+
+pub for-none : (k : Coder) (end : Bool) (item : List ℕ) → ((b : ℕ) → k .drawn end b ≡ item → ⊥) → byteFor k end item ≡ 256
+unfolding byteFor
+for-none k end item never = go (decLt (byteFor k end item) 256)
+  where
+    go : Dec (byteFor k end item < 256) → byteFor k end item ≡ 256
+    go (yes h) = absurd (never (byteFor k end item) (for-hit k end item h))
+    go (no h) = omega (arith, first-le 0 (λ b. alike (k .drawn end b) item) (counted 0 256), counted-length 0 256)
 
 -- ---- one step each way
 

@@ -4,6 +4,7 @@
 --   Drawable    every drawn character is one of the alphabet
 --   plain39, plain-digits, codabar-all    by the alphabets, whose bytes and values undo one another
 --   full-valid, full-drawable             by a test of the 256 bytes
+--   alone39, alone-digits, alone-codabar  the byte that draws a character alone
 --
 -- Assumes nothing.
 use mathlib.Core.Path.{_≡_, refl, sym, ap, _∙_}
@@ -21,16 +22,19 @@ use Rattle.laws.specs.Spelling.{Coder, counted, byteFor}
 use Rattle.laws.proofs.Finite.{both-left, both-right, upto, upto-at, every, every-at}
 use Rattle.laws.proofs.Search.{first-most}
 use Rattle.laws.proofs.Elements.{alike-self}
-use Rattle.laws.proofs.Spelling.{Drawn, none, alone, pair, Valid, for-own, Below, below-test, below}
+use Rattle.laws.proofs.Spelling.{Drawn, none, alone, pair, Valid, for-own, for-none, Below, below-test, below}
 use Rattle.tables.specs.Alphabet.{Alphabet, size, valueOf, byteOf}
 use Rattle.tables.specs.Code39.{chars39, table42, alphabet39}
 use Rattle.tables.specs.Codabar.{table41, alphabetCodabar}
 use Rattle.tables.specs.TwoOfFive.{table44, alphabetDigits}
 use Rattle.tables.specs.FullAscii.{Range, ranges, within, drawnIn, drawing}
-use Rattle.tables.proofs.Alphabets.{Proper, byte-value, proper39, proper-codabar, proper-digits}
+use Rattle.tables.proofs.Alphabets.{Proper, value-byte, byte-value, proper39, proper-codabar, proper-digits}
 use Rattle.rows.specs.Coders.{single, alphabetic, plain, placed, codabarCoder, shifts, fullCoder}
 
 -- ---- the alphabets
+
+head-same : (x y : ℕ) → x ∷ [] ≡ y ∷ [] → x ≡ y
+head-same x y e = cc
 
 module _ (a : Alphabet) (p : Proper a) (small : (b : ℕ) → valueOf a b < size a → b < 256) (allowed : Bool → ℕ → Bool) (in-it : (end : Bool) (v : ℕ) → allowed end v ≡ true → v < size a) where
   -- what draws a character is its byte
@@ -42,6 +46,18 @@ module _ (a : Alphabet) (p : Proper a) (small : (b : ℕ) → valueOf a b < size
   again end b t h =
       for-own (alphabetic a allowed) end (valueOf a b ∷ []) b (rw t) h
       (λ c e. drew (allowed end (valueOf a c)) c (valueOf a b) e (in-it end (valueOf a c)) ∙ byte-value a p b (in-it end (valueOf a b) t))
+
+  -- the byte that draws a character alone
+  alone-in : (end : Bool) (v : ℕ) (t : Bool) → allowed end v ≡ t → byteFor (alphabetic a allowed) end (v ∷ []) ≡ pick t (byteOf a v) 256
+  alone-in end v true t =
+      let e : valueOf a (byteOf a v) ≡ v = value-byte a p v (in-it end v t) in
+      rw e at (again end (byteOf a v) (rw e t) (small (byteOf a v) (rw e (in-it end v t))))
+  alone-in end v false t =
+      for-none (alphabetic a allowed) end (v ∷ []) (λ b e. go (allowed end (valueOf a b)) b refl e)
+    where
+      go : (u : Bool) (b : ℕ) → allowed end (valueOf a b) ≡ u → single u (valueOf a b) ≡ v ∷ [] → ⊥
+      go true b u e = let q : _≡_ {A = Bool} true false = sym u ∙ ap (allowed end) (head-same (valueOf a b) v e) ∙ t in let z : _≡_ {A = ℕ} 0 1 = cc in omega arith
+      go false b u e = let z : _≡_ {A = ℕ} 0 1 = cc in omega arith
 
   valid : Valid (alphabetic a allowed)
   valid end b = go (allowed end (valueOf a b)) refl
@@ -86,6 +102,19 @@ plain-all a p t =
     let in-it : (end : Bool) (v : ℕ) → ltb v (size a) ≡ true → v < size a = λ end v e. ltb-true v (size a) e in
     (valid a p (small-by a p t) allowed in-it, alone-each a p (small-by a p t) allowed in-it, below-each a p (small-by a p t) allowed in-it)
 
+plain-alone : (a : Alphabet) → Proper a → every 0 (λ v b. ltb b 256) 0 (a .chars) ≡ true → (end : Bool) (v : ℕ) → byteFor (plain a) end (v ∷ []) ≡ pick (ltb v (size a)) (byteOf a v) 256
+unfolding plain
+plain-alone a p t end v =
+    alone-in a p (small-by a p t) (λ end v. ltb v (size a)) (λ end v e. ltb-true v (size a) e) end v (ltb v (size a)) refl
+
+pub alone39 : (end : Bool) (v : ℕ) → byteFor (plain alphabet39) end (v ∷ []) ≡ pick (ltb v 43) (byteOf alphabet39 v) 256
+unfolding alphabet39 chars39
+alone39 = plain-alone alphabet39 proper39 refl
+
+pub alone-digits : (end : Bool) (v : ℕ) → byteFor (plain alphabetDigits) end (v ∷ []) ≡ pick (ltb v 10) (byteOf alphabetDigits v) 256
+unfolding alphabetDigits table44
+alone-digits = plain-alone alphabetDigits proper-digits refl
+
 pub plain39 : Valid (plain alphabet39) × Single (plain alphabet39) × Drawable alphabet39 (plain alphabet39)
 unfolding alphabet39 chars39
 plain39 = plain-all alphabet39 proper39 refl
@@ -103,6 +132,10 @@ unfolding codabarCoder alphabetCodabar table41
 codabar-all =
     let s : (b : ℕ) → valueOf alphabetCodabar b < 20 → b < 256 = small-by alphabetCodabar proper-codabar refl in
     (valid alphabetCodabar proper-codabar s placed placed-in, alone-each alphabetCodabar proper-codabar s placed placed-in, below-each alphabetCodabar proper-codabar s placed placed-in)
+
+pub alone-codabar : (end : Bool) (v : ℕ) → byteFor codabarCoder end (v ∷ []) ≡ pick (placed end v) (byteOf alphabetCodabar v) 256
+unfolding codabarCoder alphabetCodabar table41
+alone-codabar end v = alone-in alphabetCodabar proper-codabar (small-by alphabetCodabar proper-codabar refl) placed placed-in end v (placed end v) refl
 
 -- ---- full ASCII
 

@@ -1,6 +1,10 @@
 pub mod Coders
+pub mod Drawing
 pub mod Ends
 pub mod Checks
 pub mod Proper
+pub mod Numbers
 pub mod Undo
 pub mod Catches
+pub mod Loops
+pub mod Sums

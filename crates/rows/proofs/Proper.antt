@@ -25,7 +25,7 @@ use Rattle.tables.specs.Code39.{chars39, table42, alphabet39}
 use Rattle.tables.specs.Codabar.{table41, alphabetCodabar}
 use Rattle.tables.specs.TwoOfFive.{table44, alphabetDigits}
 use Rattle.tables.proofs.Alphabets as Alphabets
-use Rattle.rows.specs.declared.Limits.{Limits}
+use Rattle.rows.specs.declared.limits.Limits.{Limits}
 use Rattle.rows.specs.Limits.{_to_, none, modes, unknown, offered}
 use Rattle.rows.specs.Coders.{plain, fullCoder}
 use Rattle.rows.specs.Checks.{Rule, by43, left10, right10, noCheck}

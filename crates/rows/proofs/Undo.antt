@@ -26,7 +26,7 @@ use Rattle.words.specs.declared.Answer.{Answer}
 use Rattle.words.specs.declared.Answer.the-variants.{NoSymbology, NoMode, BadCount, BadByte, OddCount, TooManyDrawn, BadCheck, BadLength, NoExpansion, FieldNotZero}
 use Rattle.tables.specs.Alphabet.{size, valueOf, byteOf}
 use Rattle.tables.proofs.Alphabets.{value-byte, byte-value}
-use Rattle.rows.specs.declared.Limits.{Limits}
+use Rattle.rows.specs.declared.limits.Limits.{Limits}
 use Rattle.rows.specs.Limits.{offered, holds}
 use Rattle.rows.specs.Checks.{front, final, checkOf, passes}
 use Rattle.rows.specs.Symbologies.{Symbology, symbologyOf}

@@ -3,3 +3,4 @@ pub mod Coders
 pub mod Checks
 pub mod Symbologies
 pub mod Rows
+pub mod Held

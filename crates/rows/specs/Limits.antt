@@ -10,7 +10,7 @@ use mathlib.Core.List.{List, [], _∷_}
 use Prim.Native.Nat.{ℕ}
 use lib.Dec.{ltb, leb}
 use lib.ListN.{getD}
-use Rattle.rows.specs.declared.Limits.{Limits}
+use Rattle.rows.specs.declared.limits.Limits.{Limits}
 
 infix 80 _to_
 abbrev pub _to_ : ℕ → ℕ → ℕ × ℕ

@@ -12,7 +12,7 @@ use Rattle.tables.specs.Alphabet.{Alphabet}
 use Rattle.tables.specs.Code39.{alphabet39}
 use Rattle.tables.specs.Codabar.{alphabetCodabar}
 use Rattle.tables.specs.TwoOfFive.{alphabetDigits}
-use Rattle.rows.specs.declared.Limits.{Limits}
+use Rattle.rows.specs.declared.limits.Limits.{Limits}
 use Rattle.rows.specs.Limits.{_to_, none, modes, unknown}
 use Rattle.rows.specs.Coders.{plain, codabarCoder, fullCoder}
 use Rattle.rows.specs.Checks.{Rule, by43, left10, right10, noCheck}

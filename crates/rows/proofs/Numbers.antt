@@ -1,0 +1,101 @@
+-- The symbologies by the numbers that the code matches on: every number but 1, 2 and 3 draws digits.
+--
+--   others    coder and alphabet of every other number
+--   shifting  a character that begins a pair is /, + or %, in full ASCII
+--   shift-low, shift-mid, shift-high, shift-from    and those three do begin one
+--   pair-full  the byte that draws a pair
+--
+-- Assumes nothing.
+use mathlib.Core.Path.{_≡_, refl, sym, ap, _∙_}
+use mathlib.Core.Bool.{Bool, true, false}
+use mathlib.Core.List.{List, [], _∷_}
+use Prim.Native.Nat.{ℕ, zero, suc, _<_, _≤_}
+use native.Mathlib.Omega.{arith}
+use native.Mathlib.Decide.{ℕ-discrete, decLt}
+use lib.Dec.{ltb}
+use lib.ListN.{drop}
+use borrow.Author.Tests.{ne-eqb, lt-ltb, le-ltb}
+use Rattle.laws.proofs.Finite.{each-at, from-at}
+use Rattle.laws.specs.Search.{indexIn}
+use Rattle.laws.specs.Spelling.{byteFor}
+use Rattle.tables.specs.Alphabet.{valueOf}
+use Rattle.tables.specs.Code39.{chars39, alphabet39}
+use Rattle.tables.specs.TwoOfFive.{alphabetDigits}
+use Rattle.rows.specs.declared.limits.Limits.{Limits}
+use Rattle.rows.specs.Limits.{unknown}
+use Rattle.rows.specs.Coders.{plain, codabarCoder, shifts, fullCoder}
+use Rattle.rows.specs.Checks.{Rule, noCheck}
+use Rattle.rows.specs.Symbologies.{Symbology, digits, symbologies, symbologyOf}
+
+pub record Digits (y : Symbology) : Type 0 where
+  pub coder : y .coder ≡ plain alphabetDigits
+  pub alphabet : y .alphabet ≡ alphabetDigits
+
+of : (l : Limits) (r : Rule) (e : Bool) → Digits (digits l r e)
+of l r e = record { coder = refl; alphabet = refl }
+
+pub others : (s : ℕ) → (s ≡ 1 → ⊥) → (s ≡ 2 → ⊥) → (s ≡ 3 → ⊥) → Digits (symbologyOf s)
+unfolding symbologyOf symbologies
+others zero a b c = record { coder = refl; alphabet = refl }
+others (suc zero) a b c = absurd (a refl)
+others (suc (suc zero)) a b c = absurd (b refl)
+others (suc (suc (suc zero))) a b c = absurd (c refl)
+others (suc (suc (suc (suc n)))) a b c = each-at Digits (drop 4 symbologies) (digits unknown noCheck false) (of _ _ _, (of _ _ _, (of _ _ _, (of _ _ _, (of _ _ _, (of _ _ _, tt)))))) (of _ _ _) n
+
+-- ---- the characters that begin a pair
+
+coder-two : (s v : ℕ) → s ≡ 2 → symbologyOf s .coder .shift v ≡ true → fullCoder .shift v ≡ true
+unfolding symbologyOf symbologies
+coder-two s v h e = rw h at e
+
+pub shift-low : (v : ℕ) → v < 40 → fullCoder .shift v ≡ false
+unfolding fullCoder shifts valueOf alphabet39 chars39 indexIn
+shift-low v h = rw (ne-eqb 40 v (omega arith), ne-eqb 41 v (omega arith), ne-eqb 42 v (omega arith))
+
+pub shift-mid : (v : ℕ) → 40 ≤ v → v < 43 → fullCoder .shift v ≡ true
+unfolding fullCoder shifts valueOf alphabet39 chars39 indexIn
+shift-mid = from-at (λ v. fullCoder .shift v ≡ true) 40 3 (refl, (refl, (refl, tt)))
+
+pub shift-high : (v : ℕ) → 43 ≤ v → fullCoder .shift v ≡ false
+unfolding fullCoder shifts valueOf alphabet39 chars39 indexIn
+shift-high v h = rw (ne-eqb 40 v (omega arith), ne-eqb 41 v (omega arith), ne-eqb 42 v (omega arith))
+
+pub unshifted : (s v : ℕ) → (s ≡ 2 → ⊥) → symbologyOf s .coder .shift v ≡ false
+unfolding symbologyOf symbologies plain codabarCoder
+unshifted zero v n = refl
+unshifted (suc zero) v n = refl
+unshifted (suc (suc zero)) v n = absurd (n refl)
+unshifted (suc (suc (suc zero))) v n = refl
+unshifted (suc (suc (suc (suc n)))) v h = rw (others (suc (suc (suc (suc n)))) (omega arith) (omega arith) (omega arith) .coder)
+
+pub record Shifting (s v : ℕ) : Type 0 where
+  pub full : s ≡ 2
+  pub low : 40 ≤ v
+  pub high : v < 43
+
+pub shifting : (s v : ℕ) → symbologyOf s .coder .shift v ≡ true → Shifting s v
+shifting s v e = go (ℕ-discrete s 2)
+  where
+    both : true ≡ false → ⊥
+    both q = let z : _≡_ {A = ℕ} 0 1 = cc in omega arith
+
+    in-full : fullCoder .shift v ≡ true → s ≡ 2 → Dec (v < 40) → Dec (v < 43) → Shifting s v
+    in-full f h (yes a) b = absurd (both (sym f ∙ shift-low v a))
+    in-full f h (no a) (yes b) = record { full = h; low = omega arith; high = b }
+    in-full f h (no a) (no b) = absurd (both (sym f ∙ shift-high v (omega arith)))
+
+    go : Dec (s ≡ 2) → Shifting s v
+    go (yes h) = in-full (coder-two s v h e) h (decLt v 40) (decLt v 43)
+    go (no h) = absurd (both (sym e ∙ unshifted s v h))
+
+pub shift-from : (v : ℕ) → 40 ≤ v → ltb v 43 ≡ fullCoder .shift v
+shift-from v h = go (decLt v 43)
+  where
+    go : Dec (v < 43) → ltb v 43 ≡ fullCoder .shift v
+    go (yes l) = lt-ltb v 43 l ∙ sym (shift-mid v h l)
+    go (no l) = le-ltb v 43 (omega arith) ∙ sym (shift-high v (omega arith))
+
+-- full ASCII draws the same at the ends and inside
+pub pair-full : (s c d : ℕ) (end : Bool) → s ≡ 2 → byteFor fullCoder true (c ∷ d ∷ []) ≡ byteFor (symbologyOf s .coder) end (c ∷ d ∷ [])
+unfolding symbologyOf symbologies fullCoder byteFor
+pair-full s c d end e = rw e

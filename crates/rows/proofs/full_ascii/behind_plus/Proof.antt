@@ -1,0 +1,28 @@
+-- `behind_plus` gives the bytes of the pairs with +: each arm of the match is one test over the characters that it takes.
+-- Assumes nothing.
+use borrow.Author.Needs.{needs}
+use mathlib.Core.Path.{refl}
+use mathlib.Core.Bool.{true}
+use mathlib.Core.List.{[], _∷_}
+use Prim.Native.Nat.{_+_, _-_}
+use native.Mathlib.Omega.{arith}
+use Rattle.laws.specs.Search.{indexIn}
+use Rattle.laws.specs.Spelling.{byteFor}
+use Rattle.laws.proofs.Arms.{agree}
+use Rattle.tables.specs.Alphabet.{valueOf}
+use Rattle.tables.specs.Code39.{alphabet39, chars39}
+use Rattle.tables.specs.FullAscii.{drawing, ranges}
+use Rattle.rows.specs.Coders.{fullCoder}
+use Rattle.rows.proofs.Drawing.{rest}
+use Rattle.rows.proofs.full_ascii.behind_plus.Statement.{statement}
+use Rattle.rows.proofs.full_ascii.behind_plus.Tie as tie
+
+pub behind-plus-spec : {M : Type 1} → statement M
+behind-plus-spec =
+    tie.close
+    (tie.spec
+    (λ c. search needs)
+    (λ c. search needs)
+    (λ c. unfold fullCoder byteFor valueOf alphabet39 chars39 indexIn drawing ranges in agree [] 10 26 (λ v. v - 10 + 97) (λ v. byteFor fullCoder true (41 ∷ v ∷ [])) refl _ (c .before .if1 .left) (c .if2 .taken) tt)
+    (λ c. unfold fullCoder byteFor valueOf alphabet39 chars39 indexIn drawing ranges in agree [] 0 10 (λ v. 256) (λ v. byteFor fullCoder true (41 ∷ v ∷ [])) refl _ (omega arith) (c .if1 .taken) tt)
+    (λ c. unfold fullCoder byteFor valueOf alphabet39 chars39 indexIn drawing ranges in rest [] 36 7 (λ v. 41 ∷ v ∷ []) (λ v b. b .1 .0) refl refl _ (c .if2 .left) tt))

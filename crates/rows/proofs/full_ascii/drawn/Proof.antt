@@ -1,0 +1,52 @@
+-- `drawn` gives the drawing codes: each arm of the match is one test over the bytes that it takes.
+-- Assumes nothing.
+use borrow.Author.Needs.{needs}
+use mathlib.Core.Path.{refl}
+use mathlib.Core.Bool.{true}
+use mathlib.Core.List.{List, [], _∷_}
+use Prim.Native.Nat.{ℕ, _+_, _-_}
+use native.Mathlib.Omega.{arith}
+use Rattle.laws.specs.Search.{indexIn}
+use Rattle.laws.proofs.Arms.{agree, alike-there}
+use Rattle.tables.specs.Alphabet.{valueOf}
+use Rattle.tables.specs.Code39.{alphabet39, chars39}
+use Rattle.tables.specs.FullAscii.{drawing, ranges}
+use Rattle.rows.specs.Coders.{fullCoder}
+use Rattle.rows.proofs.full_ascii.drawn.Statement.{statement}
+use Rattle.rows.proofs.full_ascii.drawn.Tie as tie
+
+-- the single bytes, the last arm first
+abbrev keys : List ℕ
+keys = 96 ∷ 64 ∷ 58 ∷ 47 ∷ 46 ∷ 45 ∷ 32 ∷ []
+
+pub drawn-spec : {M : Type 1} → statement M
+drawn-spec =
+    tie.close
+    (tie.spec
+    (λ c. omega (arith, agree keys 32 13 (λ b. 33 - b) (λ b. 0) refl _ (c .before .if1 .left) (c .if2 .taken) (c .before .before .match .rest)))
+    (λ c. omega (arith, c .if2 .taken))
+    (λ c. omega (arith, agree keys 45 13 (λ b. 48 - b) (λ b. 0) refl _ (c .before .if2 .left) (c .if3 .taken) (c .before .before .before .match .rest)))
+    (λ c. omega (arith, agree keys 58 6 (λ b. 59 - b) (λ b. 0) refl _ (c .before .if3 .left) (c .if4 .taken) (c .before .before .before .before .match .rest)))
+    (λ c. omega (arith, c .if4 .taken))
+    (λ c. omega (arith, agree keys 64 27 (λ b. 65 - b) (λ b. 0) refl _ (c .before .if4 .left) (c .if5 .taken) (c .before .before .before .before .before .match .rest)))
+    (λ c. omega (arith, c .if5 .taken))
+    (λ c. omega (arith, c .if6 .taken))
+    (λ c. omega (arith, agree keys 96 27 (λ b. 97 - b) (λ b. 0) refl _ (c .before .if6 .left) (c .if7 .taken) (c .before .before .before .before .before .before .before .match .rest)))
+    (λ c. omega (arith, c .if7 .taken))
+    (λ c. omega (arith, c .if8 .taken))
+    (λ c. unfold fullCoder valueOf alphabet39 chars39 indexIn drawing ranges in rw (c .match .keys1))
+    (λ c. unfold fullCoder valueOf alphabet39 chars39 indexIn drawing ranges in rw (c .match .keys2))
+    (λ c. unfold fullCoder valueOf alphabet39 chars39 indexIn drawing ranges in rw (c .match .keys3))
+    (λ c. unfold fullCoder valueOf alphabet39 chars39 indexIn drawing ranges in rw (c .match .keys4))
+    (λ c. unfold fullCoder valueOf alphabet39 chars39 indexIn drawing ranges in rw (c .match .keys5))
+    (λ c. unfold fullCoder valueOf alphabet39 chars39 indexIn drawing ranges in rw (c .match .keys6))
+    (λ c. unfold fullCoder valueOf alphabet39 chars39 indexIn drawing ranges in rw (c .match .keys7))
+    (λ c. unfold fullCoder valueOf alphabet39 chars39 indexIn drawing ranges in alike-there keys 32 13 (λ b. 40 ∷ (b - 33 + 10) ∷ []) (fullCoder .drawn true) refl _ (c .before .if1 .left) (c .if2 .taken) (c .before .before .match .rest))
+    (λ c. unfold fullCoder valueOf alphabet39 chars39 indexIn drawing ranges in alike-there keys 45 13 (λ b. (b - 48) ∷ []) (fullCoder .drawn true) refl _ (c .before .if2 .left) (c .if3 .taken) (c .before .before .before .match .rest))
+    (λ c. unfold fullCoder valueOf alphabet39 chars39 indexIn drawing ranges in alike-there keys 58 6 (λ b. 42 ∷ (b - 59 + 15) ∷ []) (fullCoder .drawn true) refl _ (c .before .if3 .left) (c .if4 .taken) (c .before .before .before .before .match .rest))
+    (λ c. unfold fullCoder valueOf alphabet39 chars39 indexIn drawing ranges in alike-there keys 64 27 (λ b. (b - 65 + 10) ∷ []) (fullCoder .drawn true) refl _ (c .before .if4 .left) (c .if5 .taken) (c .before .before .before .before .before .match .rest))
+    (λ c. unfold fullCoder valueOf alphabet39 chars39 indexIn drawing ranges in alike-there keys 91 5 (λ b. 42 ∷ (b - 91 + 20) ∷ []) (fullCoder .drawn true) refl _ (c .before .if5 .left) (c .if6 .taken) (c .before .before .before .before .before .before .match .rest))
+    (λ c. unfold fullCoder valueOf alphabet39 chars39 indexIn drawing ranges in alike-there keys 96 27 (λ b. 41 ∷ (b - 97 + 10) ∷ []) (fullCoder .drawn true) refl _ (c .before .if6 .left) (c .if7 .taken) (c .before .before .before .before .before .before .before .match .rest))
+    (λ c. unfold fullCoder valueOf alphabet39 chars39 indexIn drawing ranges in alike-there keys 123 5 (λ b. 42 ∷ (b - 123 + 25) ∷ []) (fullCoder .drawn true) refl _ (c .before .if7 .left) (c .if8 .taken) (c .before .before .before .before .before .before .before .before .match .rest))
+    (λ c. unfold fullCoder valueOf alphabet39 chars39 indexIn drawing ranges in alike-there keys 0 32 (λ b. []) (fullCoder .drawn true) refl _ (omega arith) (c .if1 .taken) (c .before .match .rest))
+    (λ c. unfold fullCoder valueOf alphabet39 chars39 indexIn drawing ranges in alike-there [] 128 128 (λ b. []) (fullCoder .drawn true) refl _ (c .if8 .left) (search needs) tt))

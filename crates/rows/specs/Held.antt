@@ -1,0 +1,103 @@
+-- How lists stand in the structs of src/.
+--
+--   pad, rowIn     a list in a row: its first 34 entries, zeros behind them, and its length
+--   pushed         a row with one character more
+--   pieceList      the characters of a piece; putAll, a row with them behind it; isNil, whether there are none
+--   isEnd          whether index i of n is the first or the last
+--   spelledIn      a reading, and how far it came
+--   itemOf         the item that characters begin with
+--   Small, taken   a weighted sum that can't overflow, and with one value more
+--   weighed        the total when all values are taken up
+--   starts, startOf    empty sums with the weights of n characters, by symbology number
+use mathlib.Core.Bool.{Bool, true, false}
+use mathlib.Core.List.{List, [], _∷_}
+use Prim.Native.Nat.{ℕ, zero, suc, _+_, _*_, _%_, _<_, _≤_}
+use lib.Dec.{eqb}
+use lib.ListN.{length, getD, set}
+use Rattle.laws.specs.Search.{pick}
+use Rattle.laws.specs.Units.{Reading, found, stopped}
+use Rattle.laws.specs.Spelling.{Coder, atEnd, byteFor}
+use Rattle.rows.specs.declared.row.Row.{Row}
+use Rattle.rows.specs.declared.full_ascii.Piece.{Piece}
+use Rattle.rows.specs.declared.full_ascii.Piece.the-variants.{Alone, Pair, Nothing}
+use Rattle.rows.specs.declared.check.Sum.{Sum}
+use Rattle.rows.specs.declared.spelling.Spelled.{Spelled}
+use Rattle.rows.specs.declared.spelling.Item.{Item}
+
+abbrev pub pad : ℕ → List ℕ → List ℕ
+pad zero cs = []
+pad (suc n) [] = 0 ∷ pad n []
+pad (suc n) (c ∷ cs) = c ∷ pad n cs
+
+abbrev pub rowIn : List ℕ → Row
+rowIn cs = record { codes = pad 34 cs; len = length cs }
+
+-- a store past the end changes nothing
+abbrev pub pushed : Row → ℕ → Row
+pushed r v = record { codes = set (r .codes) (r .len) v; len = r .len + 1 }
+
+abbrev pub pieceList : Piece → List ℕ
+pieceList (Alone c) = c ∷ []
+pieceList (Pair c d) = c ∷ d ∷ []
+pieceList Nothing = []
+
+abbrev pub putAll : Row → List ℕ → Row
+putAll r [] = r
+putAll r (c ∷ cs) = putAll (pushed r c) cs
+
+abbrev pub isNil : List ℕ → Bool
+isNil [] = true
+isNil (c ∷ cs) = false
+
+abbrev pub isEnd : ℕ → ℕ → Bool
+isEnd i n = pick (eqb i 0) true (eqb (i + 1) n)
+
+-- what `Reading` gives, with n for "all"
+abbrev pub spelledIn : ℕ → Reading → Spelled
+spelledIn n (found cs) = record { row = rowIn cs; bad = n }
+spelledIn n (stopped i) = record { row = rowIn []; bad = i }
+
+-- the item at the front of characters: its byte and its width
+abbrev pub itemOf : Coder → Bool → List ℕ → Item
+itemOf k start [] = record { byte = 256; width = 1 }
+itemOf k start (c ∷ []) = record { byte = byteFor k true (c ∷ []); width = 1 }
+itemOf k start (c ∷ d ∷ cs) =
+    pick (k .shift c) (record { byte = byteFor k (atEnd start cs) (c ∷ d ∷ []); width = 2 }) (record { byte = byteFor k start (c ∷ []); width = 1 })
+
+pub record Small (s : Sum) : Type 0 where
+  pub total : s .total < s .modulus
+  pub modulus : s .modulus ≤ 100
+  pub weight : s .weight ≤ 100
+  pub other : s .other ≤ 100
+
+abbrev pub taken : Sum → ℕ → Sum
+taken s v = record { modulus = s .modulus; weight = s .other; other = s .weight; total = (s .total + s .weight * v) % s .modulus }
+
+abbrev pub weighed : Sum → List ℕ → ℕ
+weighed s [] = s .total
+weighed s (v ∷ vs) = weighed (taken s v) vs
+
+abbrev pub sumBy : ℕ → ℕ → ℕ → Sum
+sumBy m w o = record { modulus = m; weight = w; other = o; total = 0 }
+
+-- the rightmost of n weighs 3
+abbrev pub fromRight : ℕ → Sum
+fromRight n = pick (eqb (n % 2) 1) (sumBy 10 3 1) (sumBy 10 1 3)
+
+-- by number
+abbrev pub starts : ℕ → List Sum
+starts n =
+    sumBy 1 0 0
+    ∷ sumBy 43 1 1
+    ∷ sumBy 43 1 1
+    ∷ sumBy 1 0 0
+    ∷ sumBy 10 1 3
+    ∷ sumBy 10 1 3
+    ∷ sumBy 10 1 3
+    ∷ fromRight n
+    ∷ fromRight n
+    ∷ fromRight n
+    ∷ []
+
+unfoldable pub startOf : ℕ → ℕ → Sum
+startOf s n = getD (starts n) s (sumBy 1 0 0)

@@ -1,0 +1,34 @@
+// A row: the drawn characters, 34 places and their number. Past 34 only the number grows.
+ghost use mathlib.Core.Path.{_≡_};
+ghost use mathlib.Core.List.{List, []};
+ghost use Prim.Native.Nat.{_<_};
+ghost use Rattle.rows.specs.Held.{rowIn, pushed};
+
+pub struct Row {
+    pub codes: [u8; 34],
+    pub len: usize,
+}
+
+impl Row {
+    pub fn empty() -> Row
+        ensures { λ r. ⌜ r ≡ rowIn [] ⌝ }
+    {
+        Row {
+            codes: [0; 34],
+            len: 0,
+        }
+    }
+
+    // With one character more.
+    pub fn push(self, value: u8) -> Row
+        requires { ⌜ self .len < 1000 ⌝ }
+        ensures { λ r. ⌜ r ≡ pushed self value ⌝ }
+    {
+        let at = self.len;
+        let mut codes = self.codes;
+        if at < 34 {
+            codes[at] = value;
+        }
+        Row { codes, len: at + 1 }
+    }
+}
