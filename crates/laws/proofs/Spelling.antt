@@ -9,7 +9,8 @@
 --   unspell-spell   what is read back spells the characters
 --   spell-iff       both
 --   spell-long      there are at least as many characters as bytes
---   spell-same      and just as many where no byte draws a pair
+--   spell-same      and just as many where no byte draws a pair; spell-few, at most twice as many
+--   spell-stops     a byte that is not allowed is one of them
 --   Below, below, below-at    every entry is below a bound; by a test; at an index
 --   spell-below     every character is below a bound where every drawn one is
 --
@@ -18,7 +19,7 @@ use mathlib.Core.Path.{_≡_, refl, sym, ap, _∙_}
 use mathlib.Core.Logic.{_≢_, _↔_}
 use mathlib.Core.Bool.{Bool, true, false, _&&_}
 use mathlib.Core.List.{List, [], _∷_, _++_}
-use Prim.Native.Nat.{ℕ, zero, suc, _+_, _<_, _≤_}
+use Prim.Native.Nat.{ℕ, zero, suc, _+_, _*_, _<_, _≤_}
 use native.Mathlib.Omega.{arith}
 use native.Mathlib.Decide.{decLt}
 use native.Mathlib.Nat.{le-of-suc-le-suc, not-suc-le-zero}
@@ -226,6 +227,45 @@ spell-same k l [] h start at e = rw (← found-nil h e)
 spell-same k l (b ∷ bs) h start at e =
     same-step at (k .drawn (atEnd start bs) b) (spell k false (suc at) bs) h (length bs) (l (atEnd start bs) b)
     (λ g p. spell-same k l bs g false (suc at) p) e
+
+few-step : (k : Coder) (end : Bool) (at b : ℕ) (z : Reading) (h : List ℕ) (n : ℕ) → Drawn k end b → ((g : List ℕ) → z ≡ found g → length g ≤ 2 * n)
+    → took at (k .drawn end b) z ≡ found h → length h ≤ 2 * suc n
+few-step k end at b z h n (none e) ih p = let q : _≡_ {A = ℕ} 0 1 = cc (rw e at p) in absurd (omega arith)
+few-step k end at b z [] n (alone c e s o l) ih p = omega arith
+few-step k end at b z (x ∷ g) n (alone c e s o l) ih p = omega (arith, ih g (push-some c z x g (rw e at p) .1))
+few-step k end at b z [] n (pair c d e s o l) ih p = omega arith
+few-step k end at b z (x ∷ []) n (pair c d e s o l) ih p = omega arith
+few-step k end at b z (x ∷ y ∷ g) n (pair c d e s o l) ih p =
+    omega (arith, ih g (push-some d z y g (push-some c (push d z) x (y ∷ g) (rw e at p) .1) .1))
+
+pub spell-few : (k : Coder) → Valid k → (d h : List ℕ) (start : Bool) (at : ℕ) → spell k start at d ≡ found h → length h ≤ 2 * length d
+spell-few k v [] h start at e = rw (← found-nil h e) (omega arith)
+spell-few k v (b ∷ bs) h start at e =
+    few-step k (atEnd start bs) at b (spell k false (suc at) bs) h (length bs) (v (atEnd start bs) b) (λ g p. spell-few k v bs g false (suc at) p) e
+
+-- ---- where it stops
+
+push-stopped : (c : ℕ) (z : Reading) (i : ℕ) → push c z ≡ stopped i → z ≡ stopped i
+push-stopped c (found cs) i e = cc
+push-stopped c (stopped j) i e = e
+
+join-stopped : (cs : List ℕ) (z : Reading) (i : ℕ) → join cs z ≡ stopped i → z ≡ stopped i
+join-stopped [] z i e = e
+join-stopped (c ∷ cs) z i e = join-stopped cs z i (push-stopped c (join cs z) i e)
+
+stops-step : (at : ℕ) (p : List ℕ) (z : Reading) (i n : ℕ) → (z ≡ stopped i → (suc at ≤ i) × (i < suc at + n)) → took at p z ≡ stopped i → (at ≤ i) × (i < at + suc n)
+stops-step at [] z i n ih e = let q : at ≡ i = same-stop at i e in (omega arith, omega arith)
+  where
+    same-stop : (a b : ℕ) → stopped a ≡ stopped b → a ≡ b
+    same-stop a b e = cc
+stops-step at (c ∷ cs) z i n ih e = let q : (suc at ≤ i) × (i < suc at + n) = ih (join-stopped (c ∷ cs) z i e) in (omega (arith, q .0), omega (arith, q .1))
+
+spell-between : (k : Coder) (d : List ℕ) (start : Bool) (at i : ℕ) → spell k start at d ≡ stopped i → (at ≤ i) × (i < at + length d)
+spell-between k [] start at i e = let q : _≡_ {A = ℕ} 0 1 = cc in absurd (omega arith)
+spell-between k (b ∷ bs) start at i e = stops-step at (k .drawn (atEnd start bs) b) (spell k false (suc at) bs) i (length bs) (λ q. spell-between k bs false (suc at) i q) e
+
+pub spell-stops : (k : Coder) (d : List ℕ) (start : Bool) (i : ℕ) → spell k start 0 d ≡ stopped i → i < length d
+spell-stops k d start i e = omega (arith, spell-between k d start 0 i e .1)
 
 -- ---- how large
 

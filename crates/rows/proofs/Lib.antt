@@ -1,5 +1,5 @@
 pub mod Coders
-pub mod Drawing
+pub mod Items
 pub mod Ends
 pub mod Checks
 pub mod Proper
@@ -8,3 +8,8 @@ pub mod Undo
 pub mod Catches
 pub mod Loops
 pub mod Sums
+pub mod Fields
+pub mod Finish
+pub mod Orders
+pub mod Back
+pub mod Only

@@ -4,6 +4,8 @@
 --   shifting  a character that begins a pair is /, + or %, in full ASCII
 --   shift-low, shift-mid, shift-high, shift-from    and those three do begin one
 --   pair-full  the byte that draws a pair
+--   room-small   34 places are room enough
+--   only-five, only-two    only Interleaved asks for an even count, and only full ASCII for fewer than 34
 --
 -- Assumes nothing.
 use mathlib.Core.Path.{_≡_, refl, sym, ap, _∙_}
@@ -99,3 +101,35 @@ shift-from v h = go (decLt v 43)
 pub pair-full : (s c d : ℕ) (end : Bool) → s ≡ 2 → byteFor fullCoder true (c ∷ d ∷ []) ≡ byteFor (symbologyOf s .coder) end (c ∷ d ∷ [])
 unfolding symbologyOf symbologies fullCoder byteFor
 pair-full s c d end e = rw e
+
+-- ---- the two numbers that are told apart by 5 and 6
+
+pub only-five : (s : ℕ) → (s ≡ 5 → ⊥) → symbologyOf s .even ≡ false
+unfolding symbologyOf symbologies
+only-five zero n = refl
+only-five (suc zero) n = refl
+only-five (suc (suc zero)) n = refl
+only-five (suc (suc (suc zero))) n = refl
+only-five (suc (suc (suc (suc zero)))) n = refl
+only-five (suc (suc (suc (suc (suc zero))))) n = absurd (n refl)
+only-five (suc (suc (suc (suc (suc (suc s)))))) n =
+    each-at (λ (y : Symbology). y .even ≡ false) (drop 6 symbologies) (digits unknown noCheck false) (refl, (refl, (refl, (refl, tt)))) refl s
+
+pub only-two : (s : ℕ) → (s ≡ 2 → ⊥) → symbologyOf s .room ≡ 34
+unfolding symbologyOf symbologies
+only-two zero n = refl
+only-two (suc zero) n = refl
+only-two (suc (suc zero)) n = absurd (n refl)
+only-two (suc (suc (suc s))) n =
+    each-at (λ (y : Symbology). y .room ≡ 34) (drop 3 symbologies) (digits unknown noCheck false) (refl, (refl, (refl, (refl, (refl, (refl, (refl, tt))))))) refl s
+
+room-two : (s : ℕ) → s ≡ 2 → symbologyOf s .room ≡ 32
+unfolding symbologyOf symbologies
+room-two s e = rw e
+
+pub room-small : (s : ℕ) → symbologyOf s .room ≤ 34
+room-small s = go (ℕ-discrete s 2)
+  where
+    go : Dec (s ≡ 2) → symbologyOf s .room ≤ 34
+    go (yes e) = omega (arith, room-two s e)
+    go (no e) = omega (arith, only-two s e)

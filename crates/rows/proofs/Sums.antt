@@ -4,6 +4,7 @@
 --   small-taken   a small sum stays small with one value more; `small-start`, every sum starts small
 --   weighed-at    one value of a row taken up
 --   weighed-dot   what a sum ends at: the weighted sum by the modulus, with the weights taking turns
+--   state         the state after each character is the definition's
 --   turned        weights that take turns, counted from the right
 --   sum43, sum-left, sum-right              each rule's check, off the sum that is held
 --   checked43, checked10, unchecked, past   the check of each symbology's number, as the match's arms ask for it
@@ -22,7 +23,7 @@ use lib.ListN.{length, getD, take, drop, List·getD-eq-default}
 use lib.Seq.{drop-cons, getD-take, length-take-le}
 use borrow.Author.Tests.{eqb-true, eqb-false}
 use Rattle.laws.specs.Search.{pick}
-use Rattle.laws.specs.Weigh.{dot, turns}
+use Rattle.laws.specs.Weigh.{dot, turns, after}
 use Rattle.laws.proofs.Finite.{each-at, from-at}
 use Rattle.rows.specs.declared.check.Sum.{Sum}
 use Rattle.rows.specs.Checks.{by43, left10, right10, noCheck, checkOf}
@@ -58,6 +59,18 @@ weighed-at s cs n i h l =
 -- an empty sum, by its modulus
 weighed-by : (m w v : ℕ) (xs : List ℕ) → 0 < m → weighed (sumBy m w v) xs % m ≡ dot (turns w v (length xs)) xs % m
 weighed-by m w v xs h = ap (λ (z : ℕ). z % m) (weighed-dot (sumBy m w v) xs h) ∙ mod-mod (0 + dot (turns w v (length xs)) xs) m ∙ rw zero-add
+
+-- weights past the values weigh nothing
+dot-turns : (w v n : ℕ) (xs : List ℕ) → length xs ≤ n → dot (turns w v (length xs)) xs ≡ dot (turns w v n) xs
+dot-turns w v zero [] h = refl
+dot-turns w v zero (x ∷ xs) h = absurd (omega arith)
+dot-turns w v (suc n) [] h = refl
+dot-turns w v (suc n) (x ∷ xs) h = rw (dot-turns v w n xs (omega arith))
+
+pub state : (m w v : ℕ) (xs : List ℕ) (i : ℕ) → 0 < m → i ≤ length xs → weighed (sumBy m w v) (take i xs) ≡ after m (turns w v (length xs)) xs i
+state m w v xs i h l =
+    let k : length (take i xs) ≡ i = length-take-le i xs l in
+    weighed-dot (sumBy m w v) (take i xs) h ∙ rw (zero-add, dot-turns w v (length xs) (take i xs) (omega arith))
 
 -- ---- each rule
 

@@ -3,6 +3,7 @@
 --
 --   undo          rowOf s m d gives r exactly if dataOf s m r gives d
 --   Reads, reads    what a row that reads has passed
+--   past-turned, held, Undrew, undrew, undrawn    one test passed; a count that is held; a row that is read, each way
 --   same-data     so two data that give one row are the same, zeros at the front counted
 --
 -- Assumes nothing.
@@ -30,14 +31,14 @@ use Rattle.rows.specs.declared.limits.Limits.{Limits}
 use Rattle.rows.specs.Limits.{offered, holds}
 use Rattle.rows.specs.Checks.{front, final, checkOf, passes}
 use Rattle.rows.specs.Symbologies.{Symbology, symbologyOf}
-use Rattle.rows.specs.Rows.{Outcome, gives, turned, dataPlace, charPlace, odd, wrongCheck, bodyOf, raw, ending, judged, spelled, drawnRow, nonzero, rowOfField, rowOf, headOf, kept, added, drawable, unspelled, readRow, dataOf}
+use Rattle.rows.specs.Rows.{Outcome, gives, turned, dataPlace, charPlace, odd, wrongCheck, bodyOf, raw, ending, judged, spelled, drawnRow, nonzero, rowOfField, rowOf, headOf, kept, added, drawable, unspelled, readRow, dataOfCount, dataOf}
 use Rattle.rows.proofs.Coders.{Single}
 use Rattle.rows.proofs.Proper.{given, Counts, Loose, Proper, proper}
 use Rattle.rows.proofs.Ends.{front-snoc, final-snoc, whole}
 
 -- ---- an outcome that gives a list passed every test
 
-past-turned : (b : Bool) (a : Answer) (z : Outcome) (r : List ℕ) → pick b (turned a) z ≡ gives r → (b ≡ false) × (z ≡ gives r)
+pub past-turned : (b : Bool) (a : Answer) (z : Outcome) (r : List ℕ) → pick b (turned a) z ≡ gives r → (b ≡ false) × (z ≡ gives r)
 past-turned true a z r e = (cc, cc)
 past-turned false a z r e = (refl, e)
 
@@ -103,11 +104,11 @@ undrew-from y m d r (found b) s e =
     let a : (passes (y .rule) m r ≡ true) × (gives (b ++ kept y m r) ≡ gives d) = past-given (passes (y .rule) m r) _ _ d e in
     record { body = b; spells = s; is = same-list _ d (a .1); passing = a .0 }
 
-undrew : (y : Symbology) (m : ℕ) (d r : List ℕ) → readRow y m r ≡ gives d → Undrew y m d r
+pub undrew : (y : Symbology) (m : ℕ) (d r : List ℕ) → readRow y m r ≡ gives d → Undrew y m d r
 unfolding readRow
 undrew y m d r e = undrew-from y m d r (unspell (y .coder) true 0 (headOf m r)) refl e
 
-undrawn : (y : Symbology) (m : ℕ) (d r : List ℕ) → Undrew y m d r → readRow y m r ≡ gives d
+pub undrawn : (y : Symbology) (m : ℕ) (d r : List ℕ) → Undrew y m d r → readRow y m r ≡ gives d
 unfolding readRow
 undrawn y m d r w = rw (w .spells, w .passing, w .is)
 
@@ -238,7 +239,7 @@ sizes y (suc (suc zero)) d r h l w =
     }
 sizes y (suc (suc (suc m))) d r h l w = absurd (omega arith)
 
-held : (l : Limits) (m n : ℕ) → holds l m n ≡ true → (getD (l .least) m 0 ≤ n) × (n ≤ getD (l .most) m 0)
+pub held : (l : Limits) (m n : ℕ) → holds l m n ≡ true → (getD (l .least) m 0 ≤ n) × (n ≤ getD (l .most) m 0)
 held l m n e = (
   leb-true _ n (both-left (leb (getD (l .least) m 0) n) (leb n (getD (l .most) m 0)) e),
   leb-true n _ (both-right (leb (getD (l .least) m 0) n) (leb n (getD (l .most) m 0)) e),
@@ -306,7 +307,7 @@ empty-rest : (d : List ℕ) → ltb (nonzero (drop (length d) d)) (length (drop 
 empty-rest d = rw drop-length
 
 there : (s m : ℕ) (d r : List ℕ) → rowOf s m d ≡ gives r → dataOf s m r ≡ gives d
-unfolding rowOf rowOfField dataOf
+unfolding rowOf rowOfField dataOf dataOfCount
 there s m d r e =
     let y : Symbology = symbologyOf s in
     let a : (not (y .limits .known) ≡ false) × (_ ≡ gives r) = past-turned (not (y .limits .known)) NoSymbology _ r e in
@@ -336,7 +337,7 @@ pub record Reads (s m : ℕ) (d r : List ℕ) : Type 0 where
   pub some : 0 < length r - added m
 
 pub reads : (s m : ℕ) (d r : List ℕ) → dataOf s m r ≡ gives d → Reads s m d r
-unfolding dataOf
+unfolding dataOf dataOfCount
 reads s m d r e =
     let y : Symbology = symbologyOf s in
     let a : (not (y .limits .known) ≡ false) × (_ ≡ gives d) = past-turned (not (y .limits .known)) NoSymbology _ d e in

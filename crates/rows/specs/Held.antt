@@ -8,12 +8,15 @@
 --   itemOf         the item that characters begin with
 --   Small, taken   a weighted sum that can't overflow, and with one value more
 --   weighed        the total when all values are taken up
+--   told           an outcome as the code holds it
+--   finished       5, 6, 7 and the row
+--   dataOfRow, handedOf, written    a row's data, the answer, and the lent buffer afterwards
 --   starts, startOf    empty sums with the weights of n characters, by symbology number
-use mathlib.Core.Bool.{Bool, true, false}
-use mathlib.Core.List.{List, [], _∷_}
+use mathlib.Core.Bool.{Bool, true, false, _&&_, not}
+use mathlib.Core.List.{List, [], _∷_, _++_}
 use Prim.Native.Nat.{ℕ, zero, suc, _+_, _*_, _%_, _<_, _≤_}
-use lib.Dec.{eqb}
-use lib.ListN.{length, getD, set}
+use lib.Dec.{eqb, ltb}
+use lib.ListN.{length, getD, take, drop, set}
 use Rattle.laws.specs.Search.{pick}
 use Rattle.laws.specs.Units.{Reading, found, stopped}
 use Rattle.laws.specs.Spelling.{Coder, atEnd, byteFor}
@@ -23,6 +26,15 @@ use Rattle.rows.specs.declared.full_ascii.Piece.the-variants.{Alone, Pai
 use Rattle.rows.specs.declared.check.Sum.{Sum}
 use Rattle.rows.specs.declared.spelling.Spelled.{Spelled}
 use Rattle.rows.specs.declared.spelling.Item.{Item}
+use Rattle.rows.specs.declared.drawing.Verdict.the-variants.{Given, Turned}
+use Rattle.rows.specs.declared.drawing.Rowed.{Rowed}
+use Rattle.rows.specs.declared.reading.Handed.{Handed}
+use Rattle.rows.specs.declared.reading.Handed.the-variants.{Data, Turned as HandedTurned}
+use Rattle.words.specs.declared.Bytes.{Bytes}
+use Rattle.words.specs.declared.Answer.the-variants.{OddCount, TooManyDrawn, BadCheck, ShortForData}
+use Rattle.rows.specs.Symbologies.{Symbology}
+use Rattle.rows.specs.Checks.{checkOf}
+use Rattle.rows.specs.Rows.{Outcome, gives, turned, charPlace, odd, dataOfCount}
 
 abbrev pub pad : ℕ → List ℕ → List ℕ
 pad zero cs = []
@@ -101,3 +113,39 @@ starts n =
 
 unfoldable pub startOf : ℕ → ℕ → Sum
 startOf s n = getD (starts n) s (sumBy 1 0 0)
+
+-- ---- what the calls answer
+
+abbrev pub told : Outcome → Rowed
+told (gives cs) = record { verdict = Given; row = rowIn cs }
+told (turned a) = record { verdict = Turned a; row = rowIn [] }
+
+-- the check, behind the head or refused
+abbrev pub closed : ℕ → Row → ℕ → ℕ → Rowed
+closed m head v c =
+    pick (eqb m 0) (record { verdict = Given; row = head })
+    (pick (eqb m 1 && not (eqb v c)) (told (turned (BadCheck (charPlace (head .len))))) (record { verdict = Given; row = pushed head c }))
+
+-- 5, 6, 7 of a head, and in mode 1 of the check that was given
+unfoldable pub finished : Symbology → ℕ → Row → ℕ → Rowed
+finished y m head v =
+    pick (odd y (head .len + pick (eqb m 0) 0 1)) (told (turned OddCount))
+    (pick (ltb (y .room) (head .len + pick (eqb m 0) 0 1)) (told (turned TooManyDrawn))
+    (closed m head v (checkOf (y .rule) (take (head .len) (head .codes)))))
+
+-- the data of a row as it stands: its first `len` places
+unfoldable pub dataOfRow : ℕ → ℕ → Row → Outcome
+dataOfRow s m row = dataOfCount s m (row .len) (take (row .len) (row .codes))
+
+abbrev pub byteCount : ℕ → Bytes
+byteCount n = record { 0 = n }
+
+-- 8: the answer where the lent buffer has so many places
+abbrev pub handedOf : Outcome → ℕ → Handed
+handedOf (gives d) room = pick (ltb room (length d)) (HandedTurned (ShortForData (byteCount (length d)))) (Data (byteCount (length d)))
+handedOf (turned a) room = HandedTurned a
+
+-- the buffer afterwards: the data and what stood behind them, or, on every refusal, what stood there
+abbrev pub written : Outcome → List ℕ → List ℕ
+written (gives d) out = pick (ltb (length out) (length d)) out (d ++ drop (length d) out)
+written (turned a) out = out

@@ -108,9 +108,13 @@ unspelled y m r (found d) = pick (passes (y .rule) m r) (gives (d ++ kept y m r)
 unfoldable pub readRow : Symbology → ℕ → List ℕ → Outcome
 readRow y m r = unspelled y m r (unspell (y .coder) true 0 (headOf m r))
 
-unfoldable pub dataOf : ℕ → ℕ → List ℕ → Outcome
-dataOf s m r =
+-- 1, 2, 9: of a row with its number
+unfoldable pub dataOfCount : ℕ → ℕ → ℕ → List ℕ → Outcome
+dataOfCount s m n r =
     pick (not (symbologyOf s .limits .known)) (turned NoSymbology)
     (pick (not (offered (symbologyOf s .limits) m)) (turned NoMode)
-    (pick (not (drawable (symbologyOf s) m (length r))) (turned BadLength)
+    (pick (not (drawable (symbologyOf s) m n)) (turned BadLength)
     (readRow (symbologyOf s) m r)))
+
+unfoldable pub dataOf : ℕ → ℕ → List ℕ → Outcome
+dataOf s m r = dataOfCount s m (length r) r

@@ -1,39 +1,25 @@
-use mathlib.Core.Path.{_≡_, refl, sym, ap, _∙_}
-use mathlib.Core.Bool.{true, false}
-use mathlib.Core.List.{[], _∷_}
-use native.Mathlib.Omega.{arith}
-use borrow.Author.Needs.{needs}
-use borrow.Author.Tests.{ltb-true, lt-ltb, le-ltb}
-use Rattle.laws.specs.Spelling.{byteFor}
-use Rattle.tables.specs.Alphabet.{size, valueOf, byteOf}
-use Rattle.tables.specs.Code39.{chars39, table42, alphabet39}
+-- `size_of` is the symbology's alphabet: each arm is one of the three.
+-- Assumes nothing.
+use Rattle.tables.specs.Code39.{chars39, alphabet39}
 use Rattle.tables.specs.Codabar.{table41, alphabetCodabar}
 use Rattle.tables.specs.TwoOfFive.{table44, alphabetDigits}
-use Rattle.rows.specs.Coders.{single, plain, codabarCoder, fullCoder}
 use Rattle.rows.specs.Symbologies.{symbologies, symbologyOf}
-use Rattle.rows.proofs.Coders.{alone39, alone-digits, alone-codabar}
-use Rattle.rows.proofs.Numbers.{others, shift-low, shift-mid, shift-high, unshifted, Shifting, shifting}
+use Rattle.rows.proofs.Numbers.{others}
 use Rattle.rows.proofs.coder.size_of.Statement.{statement}
 use Rattle.rows.proofs.coder.size_of.Tie as tie
-use Rattle.rows.proofs.coder.size_of.Reads as reads
-use Rattle.rows.proofs.coder.size_of.Lts as lts
 
--- src/coder.rt:113:1
 returns : tie.Need-returns
 unfolding symbologyOf symbologies alphabet39 chars39
 returns c = rw (c .match .keys1)
 
--- src/coder.rt:113:1
 returns-2 : tie.Need-returns-2
 unfolding symbologyOf symbologies alphabet39 chars39
 returns-2 c = rw (c .match .keys2)
 
--- src/coder.rt:113:1
 returns-3 : tie.Need-returns-3
 unfolding symbologyOf symbologies alphabetCodabar table41
 returns-3 c = rw (c .match .keys3)
 
--- src/coder.rt:113:1
 returns-4 : tie.Need-returns-4
 unfolding alphabetDigits table44
 returns-4 c = let k = c .match .rest in rw (others _ (k .0 .0 .1) (k .0 .1) (k .1) .alphabet)

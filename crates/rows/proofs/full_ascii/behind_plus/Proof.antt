@@ -13,7 +13,7 @@ use Rattle.tables.specs.Alphabet.{valueOf}
 use Rattle.tables.specs.Code39.{alphabet39, chars39}
 use Rattle.tables.specs.FullAscii.{drawing, ranges}
 use Rattle.rows.specs.Coders.{fullCoder}
-use Rattle.rows.proofs.Drawing.{rest}
+use Rattle.rows.proofs.Items.{rest}
 use Rattle.rows.proofs.full_ascii.behind_plus.Statement.{statement}
 use Rattle.rows.proofs.full_ascii.behind_plus.Tie as tie
 
