@@ -1,12 +1,11 @@
 -- The way back from a row to its data, as the code takes it.
 --
---   Whole                    characters that read back, and the row that holds their bytes
 --   row-short                there are at most as many bytes as characters
 --   plain-stopped, plain-given    mode 0 by the test `bad < n`: 12, or the bytes
 --   read-stopped, read-wrong, read-first, read-second    modes 1 and 2: 12, 7, the bytes and the check, or the bytes
 --   same-count               n characters are n - 1 and the check
 --   not-known, not-offered, not-held, not-even, all-passed    1, 2, 9, or the row is read
---   mode-low, fits           a row that passes has a mode, and 1 to 34 characters
+--   fits                     a row that passes has a mode, and 1 to 34 characters
 --   given-by, turned-by      the outcome that a verdict tells: at most 34 bytes, or an answer
 --   short, enough, copied    8, or the bytes in the lent buffer
 --
@@ -40,9 +39,9 @@ use Rattle.rows.specs.Rows.{Outcome, gives, turned, charPlace, odd, head
 use Rattle.rows.specs.Held.{rowIn, pushed, spelledIn, told, dataOfRow, byteCount, handedOf, written}
 use Rattle.rows.proofs.Ends.{front-snoc, final-snoc}
 use Rattle.rows.proofs.Loops.{push-in, take-pad}
-use Rattle.rows.proofs.Numbers.{room-small}
-use Rattle.rows.proofs.Proper.{Counts, proper}
-use Rattle.rows.proofs.Undo.{past-turned, Undrew, undrew, undrawn, held}
+use Rattle.rows.proofs.Undo.{past-turned, Undrew, undrew, undrawn}
+use Rattle.rows.proofs.Readings.{Whole, stop-from, whole-from}
+use Rattle.rows.proofs.Orders.{told-first, told-next, known-is, offered-is, holds-is, in-mode, in-bounds, behind-2}
 
 -- ---- where a reading stops
 
@@ -69,19 +68,6 @@ stops k (c ∷ d ∷ cs) start at i e =
     (λ p. omega (arith, stops k cs false (suc (suc at)) i p)) (λ p. omega (arith, stops k (d ∷ cs) false (suc at) i p)) e
 
 -- ---- a reading as the code holds it
-
-pub record Whole (z : Reading) (row : Row) : Type 0 where
-  pub body : List ℕ
-  pub is : z ≡ found body
-  pub row-is : row ≡ rowIn body
-
-stop-from : (n : ℕ) (z : Reading) (r : Spelled) → r ≡ spelledIn n z → r .bad < n → z ≡ stopped (r .bad)
-stop-from n (found d) r e h = absurd (omega (arith, ap (λ (s : Spelled). s .bad) e))
-stop-from n (stopped i) r e h = ap stopped (sym (ap (λ (s : Spelled). s .bad) e))
-
-whole-from : (n : ℕ) (z : Reading) (r : Spelled) → r ≡ spelledIn n z → ((i : ℕ) → z ≡ stopped i → i < n) → n ≤ r .bad → Whole z (r .row)
-whole-from n (found d) r e s h = record { body = d; is = refl; row-is = ap (λ (s : Spelled). s .row) e }
-whole-from n (stopped i) r e s h = absurd (omega (arith, ap (λ (s : Spelled). s .bad) e, s i refl))
 
 body-short : (k : Coder) (h d : List ℕ) → unspell k true 0 h ≡ found d → length d ≤ length h
 body-short k h d e = spell-long k d h true 0 (unspell-spell k h d true 0 0 e)
@@ -170,12 +156,6 @@ module _ (y : Symbology) (m : ℕ) (codes : List ℕ) (n : ℕ) (o : m ≡ 0 →
 
 -- ---- the tests 1, 2 and 9
 
-turn-here : (k : Bool) (a : Answer) (z : Outcome) → k ≡ false → turned a ≡ pick (not k) (turned a) z
-turn-here k a z e = rw e
-
-turn-on : (k : Bool) (x a z : Outcome) → k ≡ true → x ≡ z → x ≡ pick (not k) a z
-turn-on k x a z e f = rw e f
-
 and-left : (a b : Bool) → a ≡ false → (a && b) ≡ false
 and-left a b e = rw e
 
@@ -188,60 +168,37 @@ and-both a b e f = rw (e, f)
 
 -- as the code makes them: each test, what the call behind it promised, and how it came out
 module _ (s m : ℕ) (row : Row) (l : Limits) (e : l ≡ symbologyOf s .limits) where
-  known-is : (t : Bool) → l .known ≡ t → symbologyOf s .limits .known ≡ t
-  known-is t h = sym (ap (λ (x : Limits). x .known) e) ∙ h
-
   pub not-known : not (l .known) ≡ true → told (turned NoSymbology) ≡ told (dataOfRow s m row)
   unfolding dataOfRow dataOfCount
-  not-known h = ap told (turn-here (symbologyOf s .limits .known) NoSymbology _ (known-is false (not-true _ h)))
+  not-known h = told-first _ NoSymbology _ (known-is s m l e true h)
 
   module _ (k : not (l .known) ≡ false) (b : Bool) (o : b ≡ offered l m) where
-    past-known : (x z : Outcome) → x ≡ z → x ≡ pick (not (symbologyOf s .limits .known)) (turned NoSymbology) z
-    past-known x z q = turn-on (symbologyOf s .limits .known) x _ z (known-is true (not-false _ k)) q
-
-    offered-is : (t : Bool) → b ≡ t → offered (symbologyOf s .limits) m ≡ t
-    offered-is t h = ap (λ (x : Limits). offered x m) (sym e) ∙ sym o ∙ h
-
     pub not-offered : not b ≡ true → told (turned NoMode) ≡ told (dataOfRow s m row)
     unfolding dataOfRow dataOfCount
-    not-offered h = ap told (past-known _ _ (turn-here (offered (symbologyOf s .limits) m) NoMode _ (offered-is false (not-true _ h))))
+    not-offered h = told-next _ NoSymbology _ _ (known-is s m l e false k) (told-first _ NoMode _ (offered-is s m l e b true o h))
 
-    module _ (t : not b ≡ false) where
-      counts : Counts (symbologyOf s) m
-      counts = proper s .counts m (offered-is true (not-false _ t))
+    module _ (t : not b ≡ false) (n : ℕ) (c : n ≡ row .len - added m) (h : Bool) (f : h ≡ holds l m n) where
+      held-is : (t : Bool) → h ≡ t → holds (symbologyOf s .limits) m (row .len - added m) ≡ t
+      held-is t q = rw c at (holds-is s m l e h t n f q)
 
-      pub mode-low : m < 3
-      mode-low = counts .mode
+      undrawable : drawable (symbologyOf s) m (row .len) ≡ false → told (turned BadLength) ≡ told (dataOfRow s m row)
+      unfolding dataOfRow dataOfCount
+      undrawable q = behind-2 s m l e k b o t _ _ (told-first _ BadLength _ (ap not q))
 
-      module _ (n : ℕ) (c : n ≡ row .len - added m) (h : Bool) (f : h ≡ holds l m n) where
-        past-offered : (x z : Outcome) → x ≡ z → x ≡ pick (not (symbologyOf s .limits .known)) (turned NoSymbology) (pick (not (offered (symbologyOf s .limits) m)) (turned NoMode) z)
-        past-offered x z q = past-known x _ (turn-on (offered (symbologyOf s .limits) m) x _ z (offered-is true (not-false _ t)) q)
+      pub not-held : not h ≡ true → told (turned BadLength) ≡ told (dataOfRow s m row)
+      not-held q = undrawable (and-left _ (not (odd (symbologyOf s) (row .len))) (held-is false (not-true _ q)))
 
-        held-is : (t : Bool) → h ≡ t → holds (symbologyOf s .limits) m (row .len - added m) ≡ t
-        held-is t q = ap (λ (x : Limits). holds x m (row .len - added m)) (sym e) ∙ ap (holds l m) (sym c) ∙ sym f ∙ q
+      module _ (g : not h ≡ false) where
+        pub fits : (m < 3) × ((0 < row .len) × (row .len ≤ 34))
+        fits = let b : (0 < n) × (n + added m ≤ 34) = in-bounds s m l e b h n o t f g in (in-mode s m l e _ o t, (omega (arith, b .0), omega (arith, b .1)))
 
-        undrawable : drawable (symbologyOf s) m (row .len) ≡ false → told (turned BadLength) ≡ told (dataOfRow s m row)
-        unfolding dataOfRow dataOfCount
-        undrawable q = ap told (past-offered _ _ (turn-here (drawable (symbologyOf s) m (row .len)) BadLength _ q))
+        module _ (v : Bool) (w : v ≡ odd (symbologyOf s) (row .len)) where
+          pub not-even : v ≡ true → told (turned BadLength) ≡ told (dataOfRow s m row)
+          not-even q = undrawable (and-right (holds (symbologyOf s .limits) m (row .len - added m)) (odd (symbologyOf s) (row .len)) (sym w ∙ q))
 
-        pub not-held : not h ≡ true → told (turned BadLength) ≡ told (dataOfRow s m row)
-        not-held q = undrawable (and-left _ (not (odd (symbologyOf s) (row .len))) (held-is false (not-true _ q)))
-
-        module _ (g : not h ≡ false) where
-          pub fits : (m < 3) × ((0 < row .len) × (row .len ≤ 34))
-          fits =
-              let b : (getD (symbologyOf s .limits .least) m 0 ≤ row .len - added m) × (row .len - added m ≤ getD (symbologyOf s .limits .most) m 0)
-              = held (symbologyOf s .limits) m (row .len - added m) (held-is true (not-false _ g)) in
-              (mode-low, (omega (arith, counts .some, b .0), omega (arith, counts .cap, b .1, room-small s)))
-
-          module _ (v : Bool) (w : v ≡ odd (symbologyOf s) (row .len)) where
-            pub not-even : v ≡ true → told (turned BadLength) ≡ told (dataOfRow s m row)
-            not-even q = undrawable (and-right (holds (symbologyOf s .limits) m (row .len - added m)) (odd (symbologyOf s) (row .len)) (sym w ∙ q))
-
-            pub all-passed : v ≡ false → told (readRow (symbologyOf s) m (take (row .len) (row .codes))) ≡ told (dataOfRow s m row)
-            unfolding dataOfRow dataOfCount
-            all-passed q =
-                ap told (past-offered _ _ (turn-on (drawable (symbologyOf s) m (row .len)) _ _ _ (and-both _ _ (held-is true (not-false _ g)) (sym w ∙ q)) refl))
+          pub all-passed : v ≡ false → told (readRow (symbologyOf s) m (take (row .len) (row .codes))) ≡ told (dataOfRow s m row)
+          unfolding dataOfRow dataOfCount
+          all-passed q = behind-2 s m l e k b o t _ _ (told-next _ BadLength _ _ (ap not (and-both _ _ (held-is true (not-false _ g)) (sym w ∙ q))) refl)
 
 -- ---- how many
 

@@ -2,7 +2,6 @@
 --
 --   is-odd .. pushed-on    each return of `finish` is what `finished` says
 --   told-finished          on a spelled head, `finished` is what document 01 judges: the row with its check, or the refusal
---   bad-byte, whole-text   a reading as `Spelled` holds it
 --   not-spelled, not-raw, finished-row       a row from what was spelled
 --
 -- Assumes nothing.
@@ -32,6 +31,7 @@ use Rattle.rows.specs.Rows.{Outcome, gives, turned, dataPlace, charPlace
 use Rattle.rows.specs.Held.{pad, rowIn, pushed, spelledIn, told, closed, finished}
 use Rattle.rows.proofs.Ends.{front-snoc, final-snoc}
 use Rattle.rows.proofs.Loops.{push-in, take-pad}
+use Rattle.rows.proofs.Readings.{Whole, stop-from, whole-from}
 
 and-false : (b : Bool) → (b && false) ≡ false
 and-false true = refl
@@ -113,16 +113,6 @@ told-finished y (suc (suc zero)) d h v r l w =
     rw (k, front-snoc h c, final-snoc h c, eq-eqb c c refl, push-in h c))
 told-finished y (suc (suc (suc m))) d h v r l w = absurd (omega arith)
 
--- ---- a reading as the code holds it
-
-bad-byte : (n : ℕ) (z : Reading) (r : Spelled) → r ≡ spelledIn n z → r .bad < n → z ≡ stopped (r .bad)
-bad-byte n (found h) r e l = absurd (omega (arith, ap (λ (s : Spelled). s .bad) e))
-bad-byte n (stopped i) r e l = rw e
-
-whole-text : (n : ℕ) (z : Reading) (r : Spelled) → ((i : ℕ) → z ≡ stopped i → i < n) → r ≡ spelledIn n z → n ≤ r .bad → (h : List ℕ) × (z ≡ found h) × (r .row ≡ rowIn h)
-whole-text n (found h) r s e l = (h, refl, ap (λ (s : Spelled). s .row) e)
-whole-text n (stopped i) r s e l = absurd (omega (arith, s i refl, ap (λ (s : Spelled). s .bad) e))
-
 -- ---- from what was spelled to the row
 
 module _ (y : Symbology) (m : ℕ) (d : List ℕ) where
@@ -143,17 +133,17 @@ module _ (y : Symbology) (m : ℕ) (d : List ℕ) where
 module _ (y : Symbology) (v : Valid (y .coder)) (r : y .room ≤ 34) (m : ℕ) (d body : List ℕ) (n : ℕ) (l : length body ≡ n) (b : bodyOf m d ≡ body) (s : Spelled)
     (e : s ≡ spelledIn n (spell (y .coder) true 0 body)) where
   pub not-spelled : s .bad < n → told (turned (BadByte (dataPlace (s .bad)))) ≡ told (drawnRow y m d)
-  not-spelled h = drawn-stopped y m d (s .bad) (rw b (bad-byte n (spell (y .coder) true 0 body) s e h))
+  not-spelled h = drawn-stopped y m d (s .bad) (rw b (stop-from n (spell (y .coder) true 0 body) s e h))
 
   module _ (h : n ≤ s .bad) where
-    text : (h : List ℕ) × (spell (y .coder) true 0 body ≡ found h) × (s .row ≡ rowIn h)
-    text = whole-text n (spell (y .coder) true 0 body) s (λ i q. rw l at (spell-stops (y .coder) body true i q)) e h
+    text : Whole (spell (y .coder) true 0 body) (s .row)
+    text = whole-from n (spell (y .coder) true 0 body) s e (λ i q. rw l at (spell-stops (y .coder) body true i q)) h
 
     pub spelled-len : n ≤ 34 → s .row .len < 900
-    spelled-len f = omega (arith, ap (λ (r : Row). r .len) (text .2), spell-few (y .coder) v body (text .0) true 0 (text .1), l)
+    spelled-len f = omega (arith, ap (λ (r : Row). r .len) (text .row-is), spell-few (y .coder) v body (text .body) true 0 (text .is), l)
 
     pub not-raw : raw y m d ≡ false → told (turned (BadByte (dataPlace (length d - 1)))) ≡ told (drawnRow y m d)
-    not-raw f = drawn-raw y m d (text .0) (rw b (text .1)) f
+    not-raw f = drawn-raw y m d (text .body) (rw b (text .is)) f
 
     pub finished-row : raw y m d ≡ true → m < 3 → (x : ℕ) → (m ≡ 1 → x ≡ valueOf (y .alphabet) (final d)) → finished y m (s .row) x ≡ told (drawnRow y m d)
-    finished-row f k x w = rw (text .2) (told-finished y m d (text .0) x r k w ∙ drawn-found y m d (text .0) (rw b (text .1)) f)
+    finished-row f k x w = rw (text .row-is) (told-finished y m d (text .body) x r k w ∙ drawn-found y m d (text .body) (rw b (text .is)) f)

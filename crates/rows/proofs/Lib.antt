@@ -9,6 +9,7 @@ pub mod Catches
 pub mod Loops
 pub mod Sums
 pub mod Fields
+pub mod Readings
 pub mod Finish
 pub mod Orders
 pub mod Back

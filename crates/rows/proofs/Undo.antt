@@ -31,7 +31,7 @@ use Rattle.rows.specs.declared.limits.Limits.{Limits}
 use Rattle.rows.specs.Limits.{offered, holds}
 use Rattle.rows.specs.Checks.{front, final, checkOf, passes}
 use Rattle.rows.specs.Symbologies.{Symbology, symbologyOf}
-use Rattle.rows.specs.Rows.{Outcome, gives, turned, dataPlace, charPlace, odd, wrongCheck, bodyOf, raw, ending, judged, spelled, drawnRow, nonzero, rowOfField, rowOf, headOf, kept, added, drawable, unspelled, readRow, dataOfCount, dataOf}
+use Rattle.rows.specs.Rows.{Outcome, gives, turned, dataPlace, charPlace, odd, wrongCheck, bodyOf, raw, ending, judged, spelled, drawnRow, nonzero, unclean, rowOfField, rowOf, headOf, kept, added, drawable, unspelled, readRow, dataOfCount, dataOf}
 use Rattle.rows.proofs.Coders.{Single}
 use Rattle.rows.proofs.Proper.{given, Counts, Loose, Proper, proper}
 use Rattle.rows.proofs.Ends.{front-snoc, final-snoc, whole}
@@ -303,7 +303,7 @@ draws-on k o n t x z r a b c f e = rw (a, b, c, f) e
 both-true : (a b : Bool) → a ≡ true → b ≡ true → (a && b) ≡ true
 both-true a b p q = rw (p, q)
 
-empty-rest : (d : List ℕ) → ltb (nonzero (drop (length d) d)) (length (drop (length d) d)) ≡ false
+empty-rest : (d : List ℕ) → unclean (length d) d ≡ false
 empty-rest d = rw drop-length
 
 there : (s m : ℕ) (d r : List ℕ) → rowOf s m d ≡ gives r → dataOf s m r ≡ gives d
@@ -314,8 +314,7 @@ there s m d r e =
     let b : (not (offered (y .limits) m) ≡ false) × (_ ≡ gives r) = past-turned (not (offered (y .limits) m)) NoMode _ r (a .1) in
     let c : (not (holds (y .limits) m (length d) && leb (length d) (length d)) ≡ false) × (_ ≡ gives r)
     = past-turned (not (holds (y .limits) m (length d) && leb (length d) (length d))) BadCount _ r (b .1) in
-    let f : (ltb (nonzero (drop (length d) d)) (length (drop (length d) d)) ≡ false) × (drawnRow y m (take (length d) d) ≡ gives r)
-    = past-turned (ltb (nonzero (drop (length d) d)) (length (drop (length d) d))) _ _ r (c .1) in
+    let f : (unclean (length d) d ≡ false) × (drawnRow y m (take (length d) d) ≡ gives r) = past-turned (unclean (length d) d) _ _ r (c .1) in
     let o : offered (y .limits) m ≡ true = not-false _ (b .0) in
     let h : holds (y .limits) m (length d) ≡ true = both-left (holds (y .limits) m (length d)) (leb (length d) (length d)) (not-false _ (c .0)) in
     let n : Counts y m = proper s .counts m o in

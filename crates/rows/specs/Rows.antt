@@ -70,13 +70,17 @@ drawnRow y m d = spelled y m d (spell (y .coder) true 0 (bodyOf m d))
 abbrev pub nonzero : List ℕ → ℕ
 nonzero rest = first (λ b. not (eqb b 0)) rest
 
+-- whether a byte behind the data is not zero
+abbrev pub unclean : ℕ → List ℕ → Bool
+unclean count field = ltb (nonzero (drop count field)) (length (drop count field))
+
 -- 1, 2, 3, 13
 unfoldable pub rowOfField : ℕ → ℕ → ℕ → List ℕ → Outcome
 rowOfField s m count field =
     pick (not (symbologyOf s .limits .known)) (turned NoSymbology)
     (pick (not (offered (symbologyOf s .limits) m)) (turned NoMode)
     (pick (not (holds (symbologyOf s .limits) m count && leb count (length field))) (turned BadCount)
-    (pick (ltb (nonzero (drop count field)) (length (drop count field))) (turned (FieldNotZero (dataPlace (count + nonzero (drop count field)))))
+    (pick (unclean count field) (turned (FieldNotZero (dataPlace (count + nonzero (drop count field)))))
     (drawnRow (symbologyOf s) m (take count field)))))
 
 unfoldable pub rowOf : ℕ → ℕ → List ℕ → Outcome

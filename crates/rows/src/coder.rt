@@ -1,6 +1,7 @@
 // What a byte draws in each symbology, and the byte that draws a character or a pair.
 use super::full_ascii;
 use super::full_ascii::Piece;
+use super::row;
 use super::row::Row;
 ghost use mathlib.Core.Path.{_≡_};
 ghost use mathlib.Core.Bool.{Bool, true, false, _&&_};
@@ -81,8 +82,8 @@ pub fn put(row: Row, piece: Piece) -> Row
     ensures { λ r. ⌜ r ≡ putAll row (pieceList piece) ⌝ }
 {
     match piece {
-        Piece::Alone(value) => row.push(value),
-        Piece::Pair(shift, letter) => row.push(shift).push(letter),
+        Piece::Alone(value) => row::push(row, value),
+        Piece::Pair(shift, letter) => row::push(row::push(row, shift), letter),
         Piece::Nothing => row,
     }
 }

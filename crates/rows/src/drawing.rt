@@ -3,6 +3,7 @@ use super::check;
 use super::coder;
 use super::limits;
 use super::limits::Limits;
+use super::row;
 use super::row::Row;
 use super::spelling;
 use words::Answer;
@@ -35,7 +36,7 @@ pub fn turn_away(answer: Answer) -> Rowed
 {
     Rowed {
         verdict: Verdict::Turned(answer),
-        row: Row::empty(),
+        row: row::empty(),
     }
 }
 
@@ -132,7 +133,7 @@ fn finish(symbology: u8, mode: u8, head: Row, value: u8) -> Rowed
     }
     Rowed {
         verdict: Verdict::Given,
-        row: head.push(right),
+        row: row::push(head, right),
     }
 }
 

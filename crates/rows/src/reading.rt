@@ -5,6 +5,7 @@ use super::drawing;
 use super::drawing::Rowed;
 use super::drawing::Verdict;
 use super::limits;
+use super::row;
 use super::row::Row;
 use super::spelling;
 use words::Answer;
@@ -65,7 +66,7 @@ fn checked(symbology: u8, mode: u8, row: Row, n: usize) -> Rowed
     if mode == 1 {
         return Rowed {
             verdict: Verdict::Given,
-            row: text.push(coder::byte_of(symbology, last)),
+            row: row::push(text, coder::byte_of(symbology, last)),
         };
     }
     Rowed {

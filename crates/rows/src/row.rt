@@ -9,26 +9,24 @@ pub struct Row {
     pub len: usize,
 }
 
-impl Row {
-    pub fn empty() -> Row
-        ensures { λ r. ⌜ r ≡ rowIn [] ⌝ }
-    {
-        Row {
-            codes: [0; 34],
-            len: 0,
-        }
+pub fn empty() -> Row
+    ensures { λ r. ⌜ r ≡ rowIn [] ⌝ }
+{
+    Row {
+        codes: [0; 34],
+        len: 0,
     }
+}
 
-    // With one character more.
-    pub fn push(self, value: u8) -> Row
-        requires { ⌜ self .len < 1000 ⌝ }
-        ensures { λ r. ⌜ r ≡ pushed self value ⌝ }
-    {
-        let at = self.len;
-        let mut codes = self.codes;
-        if at < 34 {
-            codes[at] = value;
-        }
-        Row { codes, len: at + 1 }
+// A row with one character more.
+pub fn push(row: Row, value: u8) -> Row
+    requires { ⌜ row .len < 1000 ⌝ }
+    ensures { λ r. ⌜ r ≡ pushed row value ⌝ }
+{
+    let at = row.len;
+    let mut codes = row.codes;
+    if at < 34 {
+        codes[at] = value;
     }
+    Row { codes, len: at + 1 }
 }

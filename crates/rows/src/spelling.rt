@@ -1,5 +1,6 @@
 // Data to characters and back, by what the bytes of a symbology draw.
 use super::coder;
+use super::row;
 use super::row::Row;
 ghost use mathlib.Core.Path.{_≡_};
 ghost use mathlib.Core.Bool.{true};
@@ -23,14 +24,14 @@ pub fn spell_text(symbology: u8, text: &[u8]) -> Spelled
     ensures { λ r. ⌜ r ≡ spelledIn (length (now (text .entry))) (spell (symbologyOf symbology .coder) true 0 (now (text .entry))) ⌝ }
 {
     let n = text.len();
-    let mut row = Row::empty();
+    let mut row = row::empty();
     let mut i = 0;
     while i < n {
         let end = coder::is_end(i, n);
         let piece = coder::drawn(symbology, end, text[i]);
         if coder::is_nothing(piece) {
             return Spelled {
-                row: Row::empty(),
+                row: row::empty(),
                 bad: i,
             };
         }
@@ -74,18 +75,18 @@ pub fn unspell_row(symbology: u8, row: Row, n: usize) -> Spelled
     requires { ⌜ n ≤ 34 ⌝ }
     ensures { λ r. ⌜ r ≡ spelledIn n (unspell (symbologyOf symbology .coder) true 0 (take n (row .codes))) ⌝ }
 {
-    let mut text = Row::empty();
+    let mut text = row::empty();
     let mut at = 0;
     while at < n {
         let item = item_at(symbology, row, at, n);
         let byte = item.byte;
         if 255 < byte {
             return Spelled {
-                row: Row::empty(),
+                row: row::empty(),
                 bad: at,
             };
         }
-        text = text.push(byte as u8);
+        text = row::push(text, byte as u8);
         at += item.width;
     }
     Spelled { row: text, bad: n }

@@ -1,7 +1,8 @@
 -- Each refusal is one law of Back, by what the tests before it said.
 -- Assumes nothing.
 use mathlib.Core.Path.{_∙_}
-use Rattle.rows.proofs.Back.{not-known, not-offered, mode-low, not-held, fits, not-even, all-passed}
+use Rattle.rows.proofs.Orders.{in-mode}
+use Rattle.rows.proofs.Back.{not-known, not-offered, not-held, fits, not-even, all-passed}
 use borrow.Author.Needs.{needs}
 use Rattle.rows.proofs.reading.read_row.Statement.{statement}
 use Rattle.rows.proofs.reading.read_row.Tie as tie
@@ -13,7 +14,7 @@ returns-2 : tie.Need-returns-2
 returns-2 c = c .turn-away2 .ensures ∙ not-offered _ _ _ _ (c .before .before .before .before .before .limits-of .ensures) (c .before .before .before .if1 .left) _ (c .before .before .offers .ensures) (c .before .if2 .taken)
 
 takes-requires : tie.Need-takes-requires
-takes-requires c κs = mode-low _ _ (c .before .before .before .before .before .before .args .row) _ (c .before .before .before .before .before .limits-of .ensures) (c .before .before .before .if1 .left) _ (c .before .before .offers .ensures) (c .before .if2 .left)
+takes-requires c κs = in-mode _ _ _ (c .before .before .before .before .before .limits-of .ensures) _ (c .before .before .offers .ensures) (c .before .if2 .left)
 
 returns-3 : tie.Need-returns-3
 returns-3 c = c .turn-away3 .ensures ∙ not-held _ _ _ _ (c .before .before .before .before .before .before .before .before .limits-of .ensures) (c .before .before .before .before .before .before .if1 .left) _ (c .before .before .before .before .before .offers .ensures) (c .before .before .before .before .if2 .left) _ (c .before .before .before .data-count .ensures) _ (c .before .before .takes .ensures) (c .before .if3 .taken)
