@@ -13,4 +13,5 @@ pub mod Readings
 pub mod Finish
 pub mod Orders
 pub mod Back
+pub mod Corners
 pub mod Only

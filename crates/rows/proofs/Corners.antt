@@ -1,0 +1,101 @@
+-- Corners of document 01, computed from the definitions: which answer a request, a field or a row gets.
+--
+--   requests    1 to 7, and which of two comes first
+--   fields      3, 13 and 4 in this order
+--   rows        9, 12 and 7 in this order
+--   corners     all of them are answered so
+--
+-- Assumes nothing.
+use mathlib.Core.Path.{_≡_, refl}
+use mathlib.Core.List.{List, [], _∷_, _++_, map}
+use Prim.Native.Nat.{ℕ}
+use Prim.Native.String.{String}
+use Rattle.laws.specs.Search.{indexIn}
+use Rattle.laws.specs.Spelling.{byteFor}
+use Rattle.words.specs.declared.Answer.{Answer}
+use Rattle.words.specs.declared.Answer.the-variants.{NoSymbology, NoMode, BadCount, BadByte, OddCount, TooManyDrawn, BadCheck, BadLength, NoExpansion, FieldNotZero}
+use Rattle.tables.specs.Printed.{text}
+use Rattle.tables.specs.Alphabet.{valueOf, byteOf}
+use Rattle.tables.specs.FullAscii.{drawing, ranges}
+use Rattle.tables.specs.Code39.{alphabet39, chars39, table42}
+use Rattle.tables.specs.Codabar.{alphabetCodabar, table41}
+use Rattle.tables.specs.TwoOfFive.{alphabetDigits, table44}
+use Rattle.rows.specs.Coders.{plain, codabarCoder, fullCoder, shifts}
+use Rattle.rows.specs.Checks.{checkOf, by43, left10, right10}
+use Rattle.rows.specs.Symbologies.{symbologyOf, symbologies}
+use Rattle.rows.specs.Rows.{Outcome, gives, turned, dataPlace, charPlace, drawnRow, rowOf, rowOfField, readRow, dataOfCount, dataOf}
+
+infix 80 _draws_
+abbrev _draws_ : Outcome → List ℕ → Outcome × Outcome
+o draws r = (o, gives r)
+
+infix 80 _gets_
+abbrev _gets_ : Outcome → Answer → Outcome × Outcome
+o gets a = (o, turned a)
+
+-- drawn characters, as values of the symbology's alphabet
+abbrev row : ℕ → String → List ℕ
+row s t = map (valueOf (symbologyOf s .alphabet)) (text t)
+
+abbrev pub requests : List (Outcome × Outcome)
+requests =
+    rowOf 0 0 (text "A") gets NoSymbology
+    ∷ rowOf 10 0 (text "A") gets NoSymbology
+    ∷ rowOf 255 255 [] gets NoSymbology
+    ∷ rowOf 1 3 [] gets NoMode
+    ∷ rowOf 3 1 (text "A5B") gets NoMode
+    ∷ rowOf 7 0 [] gets NoMode
+    ∷ rowOf 1 0 [] gets BadCount
+    ∷ rowOf 1 0 (text "000000000000000000000000000000000") gets BadCount
+    ∷ rowOf 1 1 (text "*") gets BadCount
+    ∷ rowOf 1 0 (text "A*") gets BadByte (dataPlace 1)
+    ∷ rowOf 1 0 (text "a") gets BadByte (dataPlace 0)
+    ∷ rowOf 3 0 (text "5AB") gets BadByte (dataPlace 0)
+    ∷ rowOf 3 0 (text "AAB") gets BadByte (dataPlace 1)
+    ∷ rowOf 3 0 (text "A5T") gets BadByte (dataPlace 2)
+    ∷ rowOf 4 0 (177 ∷ []) gets BadByte (dataPlace 0)
+    ∷ rowOf 2 0 (128 ∷ []) gets BadByte (dataPlace 0)
+    ∷ rowOf 2 0 (31 ∷ []) gets BadByte (dataPlace 0)
+    ∷ rowOf 2 1 (text "a1a") gets BadByte (dataPlace 2)
+    ∷ rowOf 2 1 (text "a1A") gets BadCheck (charPlace 3)
+    ∷ rowOf 2 1 (text "a19") draws row 2 "+A19"
+    ∷ rowOf 2 0 (text "$~_/:@`") draws row 2 "/D%S%O/O/Z%V%W"
+    ∷ rowOf 2 0 (text " 0-.Z") draws row 2 " 0-.Z"
+    ∷ rowOf 2 2 (text "aaaaaaaaaaaaaaaa") gets TooManyDrawn
+    ∷ rowOf 2 1 (text "aaaaaaaaaaaaaaaaA") gets TooManyDrawn
+    ∷ rowOf 5 1 (text "418") gets OddCount
+    ∷ rowOf 5 1 (text "4175") gets BadCheck (charPlace 3)
+    ∷ rowOf 5 2 (text "41") gets OddCount
+    ∷ rowOf 5 0 (text "4a7") gets BadByte (dataPlace 1)
+    ∷ []
+
+abbrev pub fields : List (Outcome × Outcome)
+fields =
+    rowOfField 5 0 3 (text "17") gets BadCount
+    ∷ rowOfField 5 0 33 (text "a" ++ (7 ∷ [])) gets BadCount
+    ∷ rowOfField 5 0 2 (text "17" ++ (0 ∷ 7 ∷ 9 ∷ [])) gets FieldNotZero (dataPlace 3)
+    ∷ rowOfField 5 0 2 (text "a7" ++ (0 ∷ 7 ∷ [])) gets FieldNotZero (dataPlace 3)
+    ∷ rowOfField 5 0 2 (text "a7" ++ (0 ∷ 0 ∷ [])) gets BadByte (dataPlace 0)
+    ∷ rowOfField 5 0 2 (text "00" ++ (0 ∷ 0 ∷ [])) draws row 5 "00"
+    ∷ []
+
+abbrev pub rows : List (Outcome × Outcome)
+rows =
+    dataOf 1 1 (row 1 "Z") gets BadLength
+    ∷ dataOf 5 0 (row 5 "417") gets BadLength
+    ∷ dataOf 3 0 (row 3 "AB") gets BadLength
+    ∷ dataOf 2 0 (row 2 "/M") gets NoExpansion (charPlace 0)
+    ∷ dataOf 2 0 (row 2 "%U") gets NoExpansion (charPlace 0)
+    ∷ dataOf 2 0 (row 2 "+1") gets NoExpansion (charPlace 0)
+    ∷ dataOf 2 0 (row 2 "A$") gets NoExpansion (charPlace 1)
+    ∷ dataOf 2 0 (row 2 "+A/") gets NoExpansion (charPlace 2)
+    ∷ dataOf 2 1 (row 2 "//") gets NoExpansion (charPlace 0)
+    ∷ dataOf 2 2 (row 2 "+A18") gets BadCheck (charPlace 3)
+    ∷ dataOf 2 1 (row 2 "+A19") draws text "a19"
+    ∷ dataOf 2 2 (row 2 "+A19") draws text "a1"
+    ∷ dataOf 5 2 (row 5 "004176") draws text "00417"
+    ∷ []
+
+pub corners : map (λ (c : Outcome × Outcome). c .0) (requests ++ fields ++ rows) ≡ map (λ (c : Outcome × Outcome). c .1) (requests ++ fields ++ rows)
+unfolding rowOf rowOfField drawnRow dataOf dataOfCount readRow byteFor symbologyOf symbologies valueOf byteOf plain codabarCoder fullCoder shifts checkOf by43 left10 right10 indexIn drawing ranges alphabet39 chars39 table42 alphabetCodabar table41 alphabetDigits table44
+corners = refl
