@@ -1,7 +1,7 @@
 -- What a check catches, for every symbology with a check by one argument over the modulus and the weights.
 --
 --   Sound       a rule whose check is the one value that brings the weighted sum to a multiple of the modulus
---   sound43, soundLeft, soundRight    the three rules are
+--   sound43, sound-left, sound-right    the three rules are
 --   one-passes  exactly one character passes behind given ones: the check as document 01 words it
 --   caught      a row that passes does not pass with one of its characters replaced by another
 --
@@ -46,32 +46,28 @@ sound43 = record {
 next-ten : (sum : ℕ) → nextTen sum ≡ 9 * sum % 10
 next-ten sum = omega arith
 
-pub sound-left : Sound left10 10
-unfolding left10
-sound-left = record {
+-- whatever the weights: one each, and each prime to ten
+sound-ten : (weights : ℕ → List ℕ) → ((n : ℕ) → length (weights n) ≡ n) → ((n : ℕ) → Inverses 10 (weights n)) → Sound (record { modulus = 10; weights = weights; check = nextTen }) 10
+sound-ten weights long inverses = record {
   weight = 1;
   times = 9;
   modulus = refl;
   above = lit< tt;
   brings = refl;
   worded = next-ten;
-  long = length-turns 1 3;
-  tells = λ n. inverses-append 10 (turns 1 3 n) (1 ∷ []) (inverses-turns 10 1 3 n (1, refl) (7, refl)) ((1, refl), tt);
+  long = long;
+  tells = λ n. inverses-append 10 (weights n) (1 ∷ []) (inverses n) ((1, refl), tt);
 }
+
+pub sound-left : Sound left10 10
+unfolding left10
+sound-left = sound-ten (λ n. turns 1 3 n) (length-turns 1 3) (λ n. inverses-turns 10 1 3 n (1, refl) (7, refl))
 
 pub sound-right : Sound right10 10
 unfolding right10
-sound-right = record {
-  weight = 1;
-  times = 9;
-  modulus = refl;
-  above = lit< tt;
-  brings = refl;
-  worded = next-ten;
-  long = λ n. length-reverse (turns 3 1 n) ∙ length-turns 3 1 n;
-  tells = λ n.
-      inverses-append 10 (reverse (turns 3 1 n)) (1 ∷ []) (inverses-reverse 10 (turns 3 1 n) (inverses-turns 10 3 1 n (7, refl) (1, refl))) ((1, refl), tt);
-}
+sound-right =
+    sound-ten (λ n. reverse (turns 3 1 n)) (λ n. length-reverse (turns 3 1 n) ∙ length-turns 3 1 n)
+    (λ n. inverses-reverse 10 (turns 3 1 n) (inverses-turns 10 3 1 n (7, refl) (1, refl)))
 
 module _ (rule : Rule) (size : ℕ) (s : Sound rule size) where
   -- the weights of a whole row, the check's own last
