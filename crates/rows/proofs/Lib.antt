@@ -5,6 +5,7 @@ pub mod Checks
 pub mod Proper
 pub mod Numbers
 pub mod Undo
+pub mod Within
 pub mod Catches
 pub mod Loops
 pub mod Sums
