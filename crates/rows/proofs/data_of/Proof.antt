@@ -18,7 +18,8 @@ hand-over-requires c κs =
 returns : tie.Need-returns
 returns c =
     let a = c .before .before .before .before .before in
-    turned-by (dataOfRow (a .args .symbology) (a .args .mode) (a .args .row)) (c .before .before .before .read-row .result) _ (a .args .out .now) (c .before .before .before .read-row .ensures) (c .before .verdict .given .1)
+    turned-by (dataOfRow (a .args .symbology) (a .args .mode) (a .args .row)) (c .before .before .before .read-row .result) _ (a .args .out .now)
+    (c .before .before .before .read-row .ensures) (c .before .verdict .given .1)
 
 returns-2 : tie.Need-returns-2
 returns-2 c =
@@ -26,7 +27,8 @@ returns-2 c =
     let r = c .before .before .before .before .before .before .read-row in
     let h = c .before .before .hand-over in
     let long : length (a .args .row .codes) ≡ 34 = search needs in
-    let e : dataOfRow (a .args .symbology) (a .args .mode) (a .args .row) ≡ gives (take (r .result .row .len) (r .result .row .codes)) = given-by (a .args .symbology) (a .args .mode) (a .args .row) (r .result) long (r .ensures) (c .before .before .before .before .enum-told .given .1) .1 in (
+    let e : dataOfRow (a .args .symbology) (a .args .mode) (a .args .row) ≡ gives (take (r .result .row .len) (r .result .row .codes)) = given-by (a .args .symbology)
+    (a .args .mode) (a .args .row) (r .result) long (r .ensures) (c .before .before .before .before .enum-told .given .1) .1 in (
       h .ensures .0 ∙ ap (λ (o : Outcome). handedOf o (length (a .args .out .now))) (sym e),
       h .ensures .1 ∙ ap (λ (o : Outcome). written o (a .args .out .now)) (sym e),
     )

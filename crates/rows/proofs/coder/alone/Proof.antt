@@ -24,7 +24,9 @@ unfolding symbologyOf symbologies
 returns-3 c = c .own-byte2 .ensures ∙ rw (c .before .byte2 .ensures, c .before .before .is-placed .ensures, c .before .before .before .match .keys3) (sym (alone-codabar _ _))
 
 returns-4 : tie.Need-returns-4
-returns-4 c = let k = c .before .before .match .rest in c .own-byte3 .ensures ∙ rw (c .before .byte3 .ensures, others _ (k .0 .0 .1) (k .0 .1) (k .1) .coder) (sym (alone-digits _ _))
+returns-4 c =
+    let k = c .before .before .match .rest in
+    c .own-byte3 .ensures ∙ rw (c .before .byte3 .ensures, others _ (k .0 .0 .1) (k .0 .1) (k .1) .coder) (sym (alone-digits _ _))
 
 pub alone-spec : {M : Type 1} → statement M
 alone-spec =

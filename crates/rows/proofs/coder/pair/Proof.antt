@@ -16,7 +16,11 @@ returns-2 : tie.Need-returns-2
 returns-2 c = c .behind-plus .ensures ∙ rw (c .before .match .keys2) (pair-full _ 41 _ _ (shifting _ _ (c .before .before .pre) .full))
 
 returns-3 : tie.Need-returns-3
-returns-3 c = let z = shifting _ _ (c .before .before .pre) in let k = c .before .match .rest in let e : c .before .before .args .shift ≡ 42 = omega (arith, z .low, z .high, k .0 .1, k .1) in c .behind-percent .ensures ∙ rw e (pair-full _ 42 _ _ (z .full))
+returns-3 c =
+    let z = shifting _ _ (c .before .before .pre) in
+    let k = c .before .match .rest in
+    let e : c .before .before .args .shift ≡ 42 = omega (arith, z .low, z .high, k .0 .1, k .1) in
+    c .behind-percent .ensures ∙ rw e (pair-full _ 42 _ _ (z .full))
 
 pub pair-spec : {M : Type 1} → statement M
 pair-spec =

@@ -17,22 +17,65 @@ use Rattle.rows.proofs.drawing.checked_row.Statement.{statement}
 use Rattle.rows.proofs.drawing.checked_row.Tie as tie
 
 slice-aggregate-spell-text : tie.Need-slice-aggregate-spell-text
-slice-aggregate-spell-text c = let t = c .before .before .args .text .now in let k : length (front t) ≡ length t - 1 = length-take-le (length t - 1) t (omega (arith, c .before .before .pre .0)) in sym k
+slice-aggregate-spell-text c =
+    let t = c .before .before .args .text .now in
+    let k : length (front t) ≡ length t - 1 = length-take-le (length t - 1) t (omega (arith, c .before .before .pre .0)) in
+    sym k
 
 spell-text-requires : tie.Need-spell-text-requires
-spell-text-requires c κs = let t = c .before .before .args .text .now in let k : length (front t) ≡ length t - 1 = length-take-le (length t - 1) t (omega (arith, c .before .before .pre .0)) in omega (arith, c .before .before .pre .1)
+spell-text-requires c κs =
+    let t = c .before .before .args .text .now in
+    let k : length (front t) ≡ length t - 1 = length-take-le (length t - 1) t (omega (arith, c .before .before .pre .0)) in
+    omega (arith, c .before .before .pre .1)
 
 returns : tie.Need-returns
-returns c = let t = c .before .before .before .before .before .args .text .now in let k : length (front t) ≡ length t - 1 = length-take-le (length t - 1) t (omega (arith, c .before .before .before .before .before .pre .0)) in c .turn-away .ensures ∙ not-spelled (symbologyOf (c .before .before .before .before .before .args .symbology)) (proper (c .before .before .before .before .before .args .symbology) .valid) (room-small (c .before .before .before .before .before .args .symbology)) 1 (c .before .before .before .before .before .args .text .now) (front (c .before .before .before .before .before .args .text .now)) _ refl refl (c .before .before .spell-text .result) (c .before .before .spell-text .ensures) (omega (arith, c .before .if1 .taken))
+returns c =
+    let t = c .before .before .before .before .before .args .text .now in
+    let k : length (front t) ≡ length t - 1 = length-take-le (length t - 1) t (omega (arith, c .before .before .before .before .before .pre .0)) in
+    c .turn-away .ensures ∙ not-spelled (symbologyOf (c .before .before .before .before .before .args .symbology))
+    (proper (c .before .before .before .before .before .args .symbology) .valid) (room-small (c .before .before .before .before .before .args .symbology)) 1
+    (c .before .before .before .before .before .args .text .now) (front (c .before .before .before .before .before .args .text .now)) _ refl refl
+    (c .before .before .spell-text .result) (c .before .before .spell-text .ensures) (omega (arith, c .before .if1 .taken))
 
 returns-2 : tie.Need-returns-2
-returns-2 c = let t = c .before .before .before .before .before .before .before .before .before .args .text .now in let k : length (front t) ≡ length t - 1 = length-take-le (length t - 1) t (omega (arith, c .before .before .before .before .before .before .before .before .before .pre .0)) in c .turn-away2 .ensures ∙ not-raw (symbologyOf (c .before .before .before .before .before .before .before .before .before .args .symbology)) (proper (c .before .before .before .before .before .before .before .before .before .args .symbology) .valid) (room-small (c .before .before .before .before .before .before .before .before .before .args .symbology)) 1 (c .before .before .before .before .before .before .before .before .before .args .text .now) (front (c .before .before .before .before .before .before .before .before .before .args .text .now)) _ refl refl (c .before .before .before .before .before .before .spell-text .result) (c .before .before .before .before .before .before .spell-text .ensures) (omega (arith, c .before .before .before .before .before .if1 .left)) (le-ltb _ _ (rw (c .before .before .size-of .ensures, c .before .before .before .value-of .ensures) at (c .before .if2 .taken)))
+returns-2 c =
+    let t = c .before .before .before .before .before .before .before .before .before .args .text .now in
+    let k : length (front t) ≡ length t - 1 = length-take-le (length t - 1) t (omega (arith, c .before .before .before .before .before .before .before .before .before .pre .0)) in
+    c .turn-away2 .ensures ∙ not-raw (symbologyOf (c .before .before .before .before .before .before .before .before .before .args .symbology))
+    (proper (c .before .before .before .before .before .before .before .before .before .args .symbology) .valid)
+    (room-small (c .before .before .before .before .before .before .before .before .before .args .symbology)) 1
+    (c .before .before .before .before .before .before .before .before .before .args .text .now)
+    (front (c .before .before .before .before .before .before .before .before .before .args .text .now)) _ refl refl
+    (c .before .before .before .before .before .before .spell-text .result) (c .before .before .before .before .before .before .spell-text .ensures)
+    (omega (arith, c .before .before .before .before .before .if1 .left))
+    (le-ltb _ _ (rw (c .before .before .size-of .ensures, c .before .before .before .value-of .ensures) at (c .before .if2 .taken)))
 
 finish-requires : tie.Need-finish-requires
-finish-requires c κs = let t = c .before .before .before .before .before .before .before .before .before .args .text .now in let k : length (front t) ≡ length t - 1 = length-take-le (length t - 1) t (omega (arith, c .before .before .before .before .before .before .before .before .before .pre .0)) in spelled-len (symbologyOf (c .before .before .before .before .before .before .before .before .before .args .symbology)) (proper (c .before .before .before .before .before .before .before .before .before .args .symbology) .valid) (room-small (c .before .before .before .before .before .before .before .before .before .args .symbology)) 1 (c .before .before .before .before .before .before .before .before .before .args .text .now) (front (c .before .before .before .before .before .before .before .before .before .args .text .now)) _ refl refl (c .before .before .before .before .before .before .spell-text .result) (c .before .before .before .before .before .before .spell-text .ensures) (omega (arith, c .before .before .before .before .before .if1 .left)) (omega (arith, c .before .before .before .before .before .before .before .before .before .pre .1))
+finish-requires c κs =
+    let t = c .before .before .before .before .before .before .before .before .before .args .text .now in
+    let k : length (front t) ≡ length t - 1 = length-take-le (length t - 1) t (omega (arith, c .before .before .before .before .before .before .before .before .before .pre .0)) in
+    spelled-len (symbologyOf (c .before .before .before .before .before .before .before .before .before .args .symbology))
+    (proper (c .before .before .before .before .before .before .before .before .before .args .symbology) .valid)
+    (room-small (c .before .before .before .before .before .before .before .before .before .args .symbology)) 1
+    (c .before .before .before .before .before .before .before .before .before .args .text .now)
+    (front (c .before .before .before .before .before .before .before .before .before .args .text .now)) _ refl refl
+    (c .before .before .before .before .before .before .spell-text .result) (c .before .before .before .before .before .before .spell-text .ensures)
+    (omega (arith, c .before .before .before .before .before .if1 .left))
+    (omega (arith, c .before .before .before .before .before .before .before .before .before .pre .1))
 
 returns-3 : tie.Need-returns-3
-returns-3 c = let t = c .before .before .before .before .before .before .before .before .before .before .args .text .now in let k : length (front t) ≡ length t - 1 = length-take-le (length t - 1) t (omega (arith, c .before .before .before .before .before .before .before .before .before .before .pre .0)) in c .finish .ensures ∙ finished-row (symbologyOf (c .before .before .before .before .before .before .before .before .before .before .args .symbology)) (proper (c .before .before .before .before .before .before .before .before .before .before .args .symbology) .valid) (room-small (c .before .before .before .before .before .before .before .before .before .before .args .symbology)) 1 (c .before .before .before .before .before .before .before .before .before .before .args .text .now) (front (c .before .before .before .before .before .before .before .before .before .before .args .text .now)) _ refl refl (c .before .before .before .before .before .before .before .spell-text .result) (c .before .before .before .before .before .before .before .spell-text .ensures) (omega (arith, c .before .before .before .before .before .before .if1 .left)) (lt-ltb _ _ (rw (c .before .before .before .size-of .ensures, c .before .before .before .before .value-of .ensures) at (c .before .before .if2 .left))) (omega arith) _ (λ o. c .before .before .before .before .value-of .ensures)
+returns-3 c =
+    let t = c .before .before .before .before .before .before .before .before .before .before .args .text .now in
+    let k : length (front t) ≡ length t - 1 = length-take-le (length t - 1) t (omega (arith, c .before .before .before .before .before .before .before .before .before .before .pre .0)) in
+    c .finish .ensures ∙ finished-row (symbologyOf (c .before .before .before .before .before .before .before .before .before .before .args .symbology))
+    (proper (c .before .before .before .before .before .before .before .before .before .before .args .symbology) .valid)
+    (room-small (c .before .before .before .before .before .before .before .before .before .before .args .symbology)) 1
+    (c .before .before .before .before .before .before .before .before .before .before .args .text .now)
+    (front (c .before .before .before .before .before .before .before .before .before .before .args .text .now)) _ refl refl
+    (c .before .before .before .before .before .before .before .spell-text .result) (c .before .before .before .before .before .before .before .spell-text .ensures)
+    (omega (arith, c .before .before .before .before .before .before .if1 .left))
+    (lt-ltb _ _ (rw (c .before .before .before .size-of .ensures, c .before .before .before .before .value-of .ensures) at (c .before .before .if2 .left)))
+    (omega arith) _ (λ o. c .before .before .before .before .value-of .ensures)
 
 pub checked-row-spec : {M : Type 1} → statement M
 checked-row-spec =

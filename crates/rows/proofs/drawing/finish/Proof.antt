@@ -16,19 +16,36 @@ returns : tie.Need-returns
 returns c = c .turn-away .ensures ∙ is-odd _ _ _ _ _ (c .before .before .before .drawn-count .ensures) (sym (c .before .before .is-odd .ensures) ∙ c .before .if1 .taken)
 
 returns-2 : tie.Need-returns-2
-returns-2 c = c .turn-away2 .ensures ∙ crowded _ _ _ _ _ (c .before .before .before .before .before .drawn-count .ensures) (sym (c .before .before .before .before .is-odd .ensures) ∙ c .before .before .before .if1 .left) (rw (c .before .before .room-of .ensures) at (c .before .if2 .taken))
+returns-2 c =
+    c .turn-away2 .ensures ∙ crowded _ _ _ _ _ (c .before .before .before .before .before .drawn-count .ensures)
+    (sym (c .before .before .before .before .is-odd .ensures) ∙ c .before .before .before .if1 .left)
+    (rw (c .before .before .room-of .ensures) at (c .before .if2 .taken))
 
 returns-3 : tie.Need-returns-3
-returns-3 c = checkless _ _ _ _ _ (c .before .before .before .before .before .drawn-count .ensures) (sym (c .before .before .before .before .is-odd .ensures) ∙ c .before .before .before .if1 .left) (rw (c .before .before .room-of .ensures) at (c .before .if2 .left)) (c .if3 .taken)
+returns-3 c =
+    checkless _ _ _ _ _ (c .before .before .before .before .before .drawn-count .ensures)
+    (sym (c .before .before .before .before .is-odd .ensures) ∙ c .before .before .before .if1 .left) (rw (c .before .before .room-of .ensures) at (c .before .if2 .left))
+    (c .if3 .taken)
 
 check-of-requires : tie.Need-check-of-requires
-check-of-requires c κs = let a = c .before .before .before .before .before .before .args in omega (arith, c .before .before .room-of .ensures, room-small (a .symbology), c .before .before .before .before .before .drawn-count .ensures, c .before .if2 .left)
+check-of-requires c κs =
+    let a = c .before .before .before .before .before .before .args in
+    omega (arith, c .before .before .room-of .ensures, room-small (a .symbology), c .before .before .before .before .before .drawn-count .ensures, c .before .if2 .left)
 
 returns-4 : tie.Need-returns-4
-returns-4 c = c .turn-away3 .ensures ∙ wrong _ _ _ _ _ (c .before .before .before .before .before .before .before .before .before .drawn-count .ensures) (sym (c .before .before .before .before .before .before .before .before .is-odd .ensures) ∙ c .before .before .before .before .before .before .before .if1 .left) (rw (c .before .before .before .before .before .before .room-of .ensures) at (c .before .before .before .before .before .if2 .left)) _ (c .before .before .before .check-of .ensures) (c .before .before .before .before .if3 .left) (c .before .before .if4 .taken) (c .before .if5 .taken)
+returns-4 c =
+    c .turn-away3 .ensures ∙ wrong _ _ _ _ _ (c .before .before .before .before .before .before .before .before .before .drawn-count .ensures)
+    (sym (c .before .before .before .before .before .before .before .before .is-odd .ensures) ∙ c .before .before .before .before .before .before .before .if1 .left)
+    (rw (c .before .before .before .before .before .before .room-of .ensures) at (c .before .before .before .before .before .if2 .left)) _
+    (c .before .before .before .check-of .ensures) (c .before .before .before .before .if3 .left) (c .before .before .if4 .taken) (c .before .if5 .taken)
 
 returns-5 : tie.Need-returns-5
-returns-5 c = ap (λ (r : Row). record { verdict = Given; row = r }) (c .push .ensures) ∙ pushed-on _ _ _ _ _ (c .before .before .before .before .before .before .before .before .drawn-count .ensures) (sym (c .before .before .before .before .before .before .before .is-odd .ensures) ∙ c .before .before .before .before .before .before .if1 .left) (rw (c .before .before .before .before .before .room-of .ensures) at (c .before .before .before .before .if2 .left)) _ (c .before .before .check-of .ensures) (c .before .before .before .if3 .left) (⊎-elim (λ w. inr (w .1 .left)) (λ w. inl (w .left)) (c .before .if4 .came))
+returns-5 c =
+    ap (λ (r : Row). record { verdict = Given; row = r }) (c .push .ensures) ∙ pushed-on _ _ _ _ _
+    (c .before .before .before .before .before .before .before .before .drawn-count .ensures)
+    (sym (c .before .before .before .before .before .before .before .is-odd .ensures) ∙ c .before .before .before .before .before .before .if1 .left)
+    (rw (c .before .before .before .before .before .room-of .ensures) at (c .before .before .before .before .if2 .left)) _ (c .before .before .check-of .ensures)
+    (c .before .before .before .if3 .left) (⊎-elim (λ w. inr (w .1 .left)) (λ w. inl (w .left)) (c .before .if4 .came))
 
 pub finish-spec : {M : Type 1} → statement M
 finish-spec =

@@ -9,7 +9,10 @@ use Rattle.rows.proofs.drawing.offers.Statement.{statement}
 use Rattle.rows.proofs.drawing.offers.Tie as tie
 
 returns-2 : tie.Need-returns-2
-returns-2 c = let a = c .before .before .args in let long : length (a .limits .most) ≡ 3 = search needs in rw (List·getD-eq-default (a .limits .most) 0 {n = a .mode} (omega (arith, c .if1 .left)))
+returns-2 c =
+    let a = c .before .before .args in
+    let long : length (a .limits .most) ≡ 3 = search needs in
+    rw (List·getD-eq-default (a .limits .most) 0 {n = a .mode} (omega (arith, c .if1 .left)))
 
 pub offers-spec : {M : Type 1} → statement M
 offers-spec = tie.close (tie.spec (λ c. search needs) (λ c. search needs) returns-2)

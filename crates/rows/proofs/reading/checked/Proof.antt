@@ -22,7 +22,8 @@ returns-2 c =
     let a = c .before .before .before .before .before .before in
     let long : length (a .args .row .codes) ≡ 34 = search needs in
     let l : a .args .n < length (a .args .row .codes) = omega arith in
-    c .turn-away2 .ensures ∙ read-wrong (symbologyOf (a .args .symbology)) _ _ _ (a .pre .1 .0) l _ (c .before .before .before .before .before .unspell-row .ensures) (c .before .before .before .before .if1 .left) _ (c .before .before .check-of .ensures) (c .before .if2 .taken)
+    c .turn-away2 .ensures ∙ read-wrong (symbologyOf (a .args .symbology)) _ _ _ (a .pre .1 .0) l _ (c .before .before .before .before .before .unspell-row .ensures)
+    (c .before .before .before .before .if1 .left) _ (c .before .before .check-of .ensures) (c .before .if2 .taken)
 
 push-requires : tie.Need-push-requires
 push-requires c κs =
@@ -37,14 +38,17 @@ returns-3 c =
     let a = c .before .before .before .before .before .before .before .before .before in
     let long : length (a .args .row .codes) ≡ 34 = search needs in
     let l : a .args .n < length (a .args .row .codes) = omega arith in
-    read-first (symbologyOf (a .args .symbology)) _ _ _ (a .pre .1 .0) l _ (c .before .before .before .before .before .before .before .before .unspell-row .ensures) (c .before .before .before .before .before .before .before .if1 .left) _ (c .before .before .before .before .before .check-of .ensures) (c .before .before .before .before .if2 .left) (c .before .before .if3 .taken) _ _ (c .before .byte-of .ensures) (c .push .ensures)
+    read-first (symbologyOf (a .args .symbology)) _ _ _ (a .pre .1 .0) l _ (c .before .before .before .before .before .before .before .before .unspell-row .ensures)
+    (c .before .before .before .before .before .before .before .if1 .left) _ (c .before .before .before .before .before .check-of .ensures)
+    (c .before .before .before .before .if2 .left) (c .before .before .if3 .taken) _ _ (c .before .byte-of .ensures) (c .push .ensures)
 
 returns-4 : tie.Need-returns-4
 returns-4 c =
     let a = c .before .before .before .before .before .before .before in
     let long : length (a .args .row .codes) ≡ 34 = search needs in
     let l : a .args .n < length (a .args .row .codes) = omega arith in
-    read-second (symbologyOf (a .args .symbology)) _ _ _ (a .pre .1 .0) l _ (c .before .before .before .before .before .before .unspell-row .ensures) (c .before .before .before .before .before .if1 .left) _ (c .before .before .before .check-of .ensures) (c .before .before .if2 .left) (c .if3 .left)
+    read-second (symbologyOf (a .args .symbology)) _ _ _ (a .pre .1 .0) l _ (c .before .before .before .before .before .before .unspell-row .ensures)
+    (c .before .before .before .before .before .if1 .left) _ (c .before .before .before .check-of .ensures) (c .before .before .if2 .left) (c .if3 .left)
 
 pub checked-spec : {M : Type 1} → statement M
 checked-spec =

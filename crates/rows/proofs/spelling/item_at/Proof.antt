@@ -15,10 +15,19 @@ pair-requires : tie.Need-pair-requires
 pair-requires c κs = sym (c .before .before .before .is-shift .ensures) ∙ c .before .before .if1 .taken
 
 returns : tie.Need-returns
-returns c = let a = c .before .before .before .before .before .before in let long : length (a .args .row .codes) ≡ 34 = search needs in item-two _ _ _ _ (omega arith) (omega arith) _ _ (c .before .before .if2 .taken) (sym (c .before .before .before .before .is-shift .ensures) ∙ c .before .before .before .if1 .taken) (c .before .is-end .ensures) (c .pair .ensures)
+returns c =
+    let a = c .before .before .before .before .before .before in
+    let long : length (a .args .row .codes) ≡ 34 = search needs in
+    item-two _ _ _ _ (omega arith) (omega arith) _ _ (c .before .before .if2 .taken)
+    (sym (c .before .before .before .before .is-shift .ensures) ∙ c .before .before .before .if1 .taken) (c .before .is-end .ensures) (c .pair .ensures)
 
 returns-2 : tie.Need-returns-2
-returns-2 c = let a = c .before .before .before .before .before in let long : length (a .args .row .codes) ≡ 34 = search needs in item-one (symbologyOf (a .args .symbology) .coder) (a .args .row .codes) (a .args .at) (a .args .n) (omega arith) (omega arith) _ _ (⊎-elim (λ w. inr (w .1 .left)) (λ w. inl (sym (c .before .before .before .is-shift .ensures) ∙ w .left)) (c .before .before .if1 .came)) (c .before .is-end2 .ensures) (c .alone .ensures)
+returns-2 c =
+    let a = c .before .before .before .before .before in
+    let long : length (a .args .row .codes) ≡ 34 = search needs in
+    item-one (symbologyOf (a .args .symbology) .coder) (a .args .row .codes) (a .args .at) (a .args .n) (omega arith) (omega arith) _ _
+    (⊎-elim (λ w. inr (w .1 .left)) (λ w. inl (sym (c .before .before .before .is-shift .ensures) ∙ w .left)) (c .before .before .if1 .came))
+    (c .before .is-end2 .ensures) (c .alone .ensures)
 
 pub item-at-spec : {M : Type 1} → statement M
 item-at-spec =

@@ -19,13 +19,19 @@ loop-holds : tie.Need-loop-holds Inv-loop μ-loop
 loop-holds c = start _ _ _ (c .empty .ensures)
 
 returns : tie.Need-returns Inv-loop μ-loop
-returns c = refused _ _ _ _ (c .before .before .before .before .before .before .before .loop .inv) (c .before .before .before .before .before .before .loop-test .taken) _ (c .before .before .before .before .before .is-end .ensures) (c .before .before .before .drawn .result) (c .before .before .before .drawn .ensures) _ (c .before .before .is-nothing .ensures) (c .before .if1 .taken) _ (c .empty2 .ensures)
+returns c =
+    refused _ _ _ _ (c .before .before .before .before .before .before .before .loop .inv) (c .before .before .before .before .before .before .loop-test .taken) _
+    (c .before .before .before .before .before .is-end .ensures) (c .before .before .before .drawn .result) (c .before .before .before .drawn .ensures) _
+    (c .before .before .is-nothing .ensures) (c .before .if1 .taken) _ (c .empty2 .ensures)
 
 put-requires : tie.Need-put-requires Inv-loop μ-loop
 put-requires c κs = few-chars _ _ _ _ (c .before .before .before .before .before .before .loop .inv) (omega arith)
 
 loop-again : tie.Need-loop-again Inv-loop μ-loop
-loop-again c = next _ _ _ _ (c .before .before .before .before .before .before .before .loop .inv) (c .before .before .before .before .before .before .loop-test .taken) _ (c .before .before .before .before .before .is-end .ensures) (c .before .before .before .drawn .result) (c .before .before .before .drawn .ensures) _ (c .before .before .is-nothing .ensures) (c .before .if1 .left) _ (c .put .ensures)
+loop-again c =
+    next _ _ _ _ (c .before .before .before .before .before .before .before .loop .inv) (c .before .before .before .before .before .before .loop-test .taken) _
+    (c .before .before .before .before .before .is-end .ensures) (c .before .before .before .drawn .result) (c .before .before .before .drawn .ensures) _
+    (c .before .before .is-nothing .ensures) (c .before .if1 .left) _ (c .put .ensures)
 
 returns-2 : tie.Need-returns-2 Inv-loop μ-loop
 returns-2 c = ended _ _ _ _ (c .before .loop .inv) (c .loop-test .left)

@@ -24,22 +24,50 @@ item-at-requires : tie.Need-item-at-requires Inv-loop μ-loop
 item-at-requires c κs = (c .loop-test .taken, c .before .before .before .pre)
 
 returns : tie.Need-returns Inv-loop μ-loop
-returns c = let a = c .before .before .before .before .before .before in let long : length (a .args .row .codes) ≡ 34 = search needs in let m : length (take (a .args .n) (a .args .row .codes)) ≡ a .args .n = length-take-le (a .args .n) (a .args .row .codes) (omega (arith, a .pre)) in item-refused _ _ _ _ _ m (c .before .before .before .before .loop .inv) (c .before .before .before .loop-test .taken) (c .before .before .item-at .result) (c .before .before .item-at .ensures) (c .before .if1 .taken) _ (c .empty2 .ensures)
+returns c =
+    let a = c .before .before .before .before .before .before in
+    let long : length (a .args .row .codes) ≡ 34 = search needs in
+    let m : length (take (a .args .n) (a .args .row .codes)) ≡ a .args .n = length-take-le (a .args .n) (a .args .row .codes) (omega (arith, a .pre)) in
+    item-refused _ _ _ _ _ m (c .before .before .before .before .loop .inv) (c .before .before .before .loop-test .taken) (c .before .before .item-at .result)
+    (c .before .before .item-at .ensures) (c .before .if1 .taken) _ (c .empty2 .ensures)
 
 push-requires : tie.Need-push-requires Inv-loop μ-loop
-push-requires c κs = let a = c .before .before .before .before .before in let long : length (a .args .row .codes) ≡ 34 = search needs in let m : length (take (a .args .n) (a .args .row .codes)) ≡ a .args .n = length-take-le (a .args .n) (a .args .row .codes) (omega (arith, a .pre)) in few-bytes _ _ _ _ _ m (c .before .before .before .loop .inv) (a .pre)
+push-requires c κs =
+    let a = c .before .before .before .before .before in
+    let long : length (a .args .row .codes) ≡ 34 = search needs in
+    let m : length (take (a .args .n) (a .args .row .codes)) ≡ a .args .n = length-take-le (a .args .n) (a .args .row .codes) (omega (arith, a .pre)) in
+    few-bytes _ _ _ _ _ m (c .before .before .before .loop .inv) (a .pre)
 
 add-at : tie.Need-add-at Inv-loop μ-loop
-add-at c = let a = c .before .before .before .before .before .before .before in let long : length (a .args .row .codes) ≡ 34 = search needs in let m : length (take (a .args .n) (a .args .row .codes)) ≡ a .args .n = length-take-le (a .args .n) (a .args .row .codes) (omega (arith, a .pre)) in omega (arith, width-fits _ _ _ _ _ m (c .before .before .before .before .before .loop .inv) (c .before .before .before .before .loop-test .taken) (c .before .before .before .item-at .result) (c .before .before .before .item-at .ensures) .1)
+add-at c =
+    let a = c .before .before .before .before .before .before .before in
+    let long : length (a .args .row .codes) ≡ 34 = search needs in
+    let m : length (take (a .args .n) (a .args .row .codes)) ≡ a .args .n = length-take-le (a .args .n) (a .args .row .codes) (omega (arith, a .pre)) in
+    omega
+    (arith, width-fits _ _ _ _ _ m (c .before .before .before .before .before .loop .inv) (c .before .before .before .before .loop-test .taken) (c .before .before .before .item-at .result) (c .before .before .before .item-at .ensures) .1)
 
 loop-less : tie.Need-loop-less Inv-loop μ-loop
-loop-less c = let a = c .before .before .before .before .before .before .before in let long : length (a .args .row .codes) ≡ 34 = search needs in let m : length (take (a .args .n) (a .args .row .codes)) ≡ a .args .n = length-take-le (a .args .n) (a .args .row .codes) (omega (arith, a .pre)) in omega (arith, width-fits _ _ _ _ _ m (c .before .before .before .before .before .loop .inv) (c .before .before .before .before .loop-test .taken) (c .before .before .before .item-at .result) (c .before .before .before .item-at .ensures) .0, width-fits _ _ _ _ _ m (c .before .before .before .before .before .loop .inv) (c .before .before .before .before .loop-test .taken) (c .before .before .before .item-at .result) (c .before .before .before .item-at .ensures) .1)
+loop-less c =
+    let a = c .before .before .before .before .before .before .before in
+    let long : length (a .args .row .codes) ≡ 34 = search needs in
+    let m : length (take (a .args .n) (a .args .row .codes)) ≡ a .args .n = length-take-le (a .args .n) (a .args .row .codes) (omega (arith, a .pre)) in
+    omega
+    (arith, width-fits _ _ _ _ _ m (c .before .before .before .before .before .loop .inv) (c .before .before .before .before .loop-test .taken) (c .before .before .before .item-at .result) (c .before .before .before .item-at .ensures) .0, width-fits _ _ _ _ _ m (c .before .before .before .before .before .loop .inv) (c .before .before .before .before .loop-test .taken) (c .before .before .before .item-at .result) (c .before .before .before .item-at .ensures) .1)
 
 loop-again : tie.Need-loop-again Inv-loop μ-loop
-loop-again c = let a = c .before .before .before .before .before .before .before in let long : length (a .args .row .codes) ≡ 34 = search needs in let m : length (take (a .args .n) (a .args .row .codes)) ≡ a .args .n = length-take-le (a .args .n) (a .args .row .codes) (omega (arith, a .pre)) in item-next _ _ _ _ _ m (c .before .before .before .before .before .loop .inv) (c .before .before .before .before .loop-test .taken) (c .before .before .before .item-at .result) (c .before .before .before .item-at .ensures) (c .before .before .if1 .left) _ (c .before .push .ensures)
+loop-again c =
+    let a = c .before .before .before .before .before .before .before in
+    let long : length (a .args .row .codes) ≡ 34 = search needs in
+    let m : length (take (a .args .n) (a .args .row .codes)) ≡ a .args .n = length-take-le (a .args .n) (a .args .row .codes) (omega (arith, a .pre)) in
+    item-next _ _ _ _ _ m (c .before .before .before .before .before .loop .inv) (c .before .before .before .before .loop-test .taken)
+    (c .before .before .before .item-at .result) (c .before .before .before .item-at .ensures) (c .before .before .if1 .left) _ (c .before .push .ensures)
 
 returns-2 : tie.Need-returns-2 Inv-loop μ-loop
-returns-2 c = let a = c .before .before .before in let long : length (a .args .row .codes) ≡ 34 = search needs in let m : length (take (a .args .n) (a .args .row .codes)) ≡ a .args .n = length-take-le (a .args .n) (a .args .row .codes) (omega (arith, a .pre)) in read-back _ _ _ _ _ m (c .before .loop .inv) (c .loop-test .left)
+returns-2 c =
+    let a = c .before .before .before in
+    let long : length (a .args .row .codes) ≡ 34 = search needs in
+    let m : length (take (a .args .n) (a .args .row .codes)) ≡ a .args .n = length-take-le (a .args .n) (a .args .row .codes) (omega (arith, a .pre)) in
+    read-back _ _ _ _ _ m (c .before .loop .inv) (c .loop-test .left)
 
 pub unspell-row-spec : {M : Type 1} → statement M
 unspell-row-spec =
