@@ -1,6 +1,6 @@
 -- The first places of the row are copied, where the lent buffer has as many.
 -- Assumes nothing.
-use mathlib.Core.Path.{_≡_, sym}
+use mathlib.Core.Path.{_≡_}
 use Prim.Native.Nat.{_≤_}
 use native.Mathlib.Omega.{arith}
 use lib.ListN.{length}
@@ -21,15 +21,14 @@ array-share-prefix-codes : tie.Need-array-share-prefix-codes
 array-share-prefix-codes c =
     let a = c .before .before .before in
     let long : length (a .args .text .codes) ≡ 34 = search needs in
-    let l : a .args .text .len ≤ length (a .args .text .codes) = omega (arith, a .pre) in
-    l
+    omega (arith, a .pre)
 
 slice-aggregate-copy : tie.Need-slice-aggregate-copy
 slice-aggregate-copy c =
     let a = c .before .before .before .before in
     let long : length (a .args .text .codes) ≡ 34 = search needs in
     let l : a .args .text .len ≤ length (a .args .text .codes) = omega (arith, a .pre) in
-    sym (length-take-le _ _ l)
+    omega (arith, length-take-le (a .args .text .len) (a .args .text .codes) l)
 
 copy-requires : tie.Need-copy-requires
 copy-requires c κs =
@@ -43,7 +42,8 @@ returns-2 c =
     let a = c .before .before .before .before .before .before .before .before in
     let long : length (a .args .text .codes) ≡ 34 = search needs in
     let l : a .args .text .len ≤ length (a .args .text .codes) = omega (arith, a .pre) in
-    (enough (a .args .text .codes) (a .args .out .now) _ l (c .before .before .before .before .before .before .if1 .left), copied (a .args .text .codes) (a .args .out .now) _ l (c .before .before .before .before .before .before .if1 .left) _ (c .before .before .copy .ensures .1))
+    let h = c .before .before .before .before .before .before .if1 .left in
+    (enough (a .args .text .codes) (a .args .out .now) _ l h, copied (a .args .text .codes) (a .args .out .now) _ l h _ (c .before .before .copy .ensures .1))
 
 pub hand-over-spec : {M : Type 1} → statement M
 hand-over-spec =
