@@ -1,6 +1,7 @@
 -- The shape of a strip: what holds of head, group and tail holds of the whole, for every number of repeats.
 --
 --   all-shape      good sets in head, group and tail are good sets in the shape
+--   add-shape      what adds up over kinds, of a shape
 --   widths-shape   its elements
 --   frees-shape    its free units
 --   unit-head, unit-group, unit-tail   the kind of each unit, by its number
@@ -35,7 +36,7 @@ module _ (f : List Kind → ℕ) (add : (a b : List Kind) → f (a ++ b) ≡ f a
   add-many zero group rest = omega arith
   add-many (suc n) group rest = rw add (omega (arith, suc-mul n (f group), add-many n group rest))
 
-  add-shape : (l : Layout) (n : ℕ) → f (shape l n) ≡ f (l .head) + (n * f (l .group) + f (l .tail))
+  pub add-shape : (l : Layout) (n : ℕ) → f (shape l n) ≡ f (l .head) + (n * f (l .group) + f (l .tail))
   add-shape l n = rw (add, add-many)
 
 widths-append : (a b : List Kind) → widths (a ++ b) ≡ widths a + widths b

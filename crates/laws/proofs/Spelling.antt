@@ -8,9 +8,9 @@
 --   spell-unspell   what is spelled is read back
 --   unspell-spell   what is read back spells the characters
 --   spell-iff       both
---   spell-long      there are at least as many characters as bytes
+--   spell-long      there are at least as many characters as bytes; unspell-short, also where they are read back
 --   spell-same      and just as many where no byte draws a pair; spell-few, at most twice as many
---   spell-stops     a byte that is not allowed is one of them
+--   spell-stops     a byte that is not allowed is one of them; unspell-stops, and so is the character where a failing item begins
 --   Below, below, below-at    every entry is below a bound; by a test; at an index
 --   spell-below     every character is below a bound where every drawn one is
 --
@@ -216,6 +216,9 @@ spell-long k [] h start at e = omega arith
 spell-long k (b ∷ bs) h start at e =
     long-step at (k .drawn (atEnd start bs) b) (spell k false (suc at) bs) h (length bs) (λ g p. spell-long k bs g false (suc at) p) e
 
+pub unspell-short : (k : Coder) (h d : List ℕ) → unspell k true 0 h ≡ found d → length d ≤ length h
+unspell-short k h d e = spell-long k d h true 0 (unspell-spell k h d true 0 0 e)
+
 same-step : (at : ℕ) (p : List ℕ) (z : Reading) (h : List ℕ) (n : ℕ) → length p ≤ 1 → ((g : List ℕ) → z ≡ found g → length g ≡ n) → took at p z ≡ found h → length h ≡ suc n
 same-step at [] z h n l ih e = let q : _≡_ {A = ℕ} 0 1 = cc in absurd (omega arith)
 same-step at (c ∷ []) z [] n l ih e = absurd (push-none c z e)
@@ -266,6 +269,30 @@ spell-between k (b ∷ bs) start at i e = stops-step at (k .drawn (atEnd start b
 
 pub spell-stops : (k : Coder) (d : List ℕ) (start : Bool) (i : ℕ) → spell k start 0 d ≡ stopped i → i < length d
 spell-stops k d start i e = omega (arith, spell-between k d start 0 i e .1)
+
+-- the way back
+
+gave-stopped : (at b : ℕ) (z : Reading) (t : Bool) (i n : ℕ) → at < n → (z ≡ stopped i → i < n) → pick t (push b z) (stopped at) ≡ stopped i → i < n
+gave-stopped at b (found d) true i n l ih e = let q : _≡_ {A = ℕ} 0 1 = cc in absurd (omega arith)
+gave-stopped at b (stopped j) true i n l ih e = ih e
+gave-stopped at b z false i n l ih e = let q : at ≡ i = cc in omega arith
+
+stops-two : (k : Coder) (start : Bool) (at i c d : ℕ) (cs : List ℕ) (n : ℕ) (t : Bool) → at < n
+    → (unspell k false (suc (suc at)) cs ≡ stopped i → i < n) → (unspell k false (suc at) (d ∷ cs) ≡ stopped i → i < n)
+    → pick t (gave at (byteFor k (atEnd start cs) (c ∷ d ∷ [])) (unspell k false (suc (suc at)) cs)) (gave at (byteFor k start (c ∷ [])) (unspell k false (suc at) (d ∷ cs))) ≡ stopped i
+    → i < n
+stops-two k start at i c d cs n true l two one e = gave-stopped at _ _ (ltb (byteFor k (atEnd start cs) (c ∷ d ∷ [])) 256) i n l two e
+stops-two k start at i c d cs n false l two one e = gave-stopped at _ _ (ltb (byteFor k start (c ∷ [])) 256) i n l one e
+
+none-stops : (i n : ℕ) → found [] ≡ stopped i → i < n
+none-stops i n e = let q : _≡_ {A = ℕ} 0 1 = cc in absurd (omega arith)
+
+pub unspell-stops : (k : Coder) (h : List ℕ) (start : Bool) (at i : ℕ) → unspell k start at h ≡ stopped i → i < at + length h
+unspell-stops k [] start at i e = none-stops i _ e
+unspell-stops k (c ∷ []) start at i e = gave-stopped at _ (found []) (ltb (byteFor k true (c ∷ [])) 256) i _ (omega arith) (none-stops i _) e
+unspell-stops k (c ∷ d ∷ cs) start at i e =
+    stops-two k start at i c d cs _ (k .shift c) (omega arith)
+    (λ p. omega (arith, unspell-stops k cs false (suc (suc at)) i p)) (λ p. omega (arith, unspell-stops k (d ∷ cs) false (suc at) i p)) e
 
 -- ---- how large
 

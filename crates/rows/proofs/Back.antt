@@ -15,14 +15,13 @@ use mathlib.Core.Bool.{Bool, true, false, _&&_, not}
 use mathlib.Core.List.{List, [], _∷_, _++_, append-nil}
 use Prim.Native.Nat.{ℕ, zero, suc, _+_, _-_, _<_, _≤_}
 use native.Mathlib.Omega.{arith}
-use lib.Dec.{eqb, ltb}
+use lib.Dec.{eqb}
 use lib.ListN.{length, getD, take, drop, length-append, length-take}
 use lib.Seq.{take-suc, length-take-le, take-length}
 use borrow.Author.Tests.{eq-eqb, ne-eqb, lt-ltb, le-ltb, not-true, not-false}
-use Rattle.laws.specs.Search.{pick}
-use Rattle.laws.specs.Units.{Reading, found, stopped, push}
-use Rattle.laws.specs.Spelling.{Coder, atEnd, byteFor, gave, unspell}
-use Rattle.laws.proofs.Spelling.{unspell-spell, spell-long}
+use Rattle.laws.specs.Units.{Reading, found, stopped}
+use Rattle.laws.specs.Spelling.{Coder, unspell}
+use Rattle.laws.proofs.Spelling.{unspell-stops, unspell-short}
 use Rattle.words.specs.declared.Answer.{Answer}
 use Rattle.words.specs.declared.Answer.the-variants.{NoSymbology, NoMode, BadCheck, BadLength, NoExpansion, ShortForData}
 use Rattle.tables.specs.Alphabet.{byteOf}
@@ -43,44 +42,17 @@ use Rattle.rows.proofs.Undo.{past-turned, Undrew, undrew, undrawn}
 use Rattle.rows.proofs.Readings.{Whole, stop-from, whole-from}
 use Rattle.rows.proofs.Orders.{told-first, told-next, known-is, offered-is, holds-is, in-mode, in-bounds, behind-2}
 
--- ---- where a reading stops
-
-gave-stopped : (at b : ℕ) (z : Reading) (t : Bool) (i n : ℕ) → at < n → (z ≡ stopped i → i < n) → pick t (push b z) (stopped at) ≡ stopped i → i < n
-gave-stopped at b (found d) true i n l ih e = let q : _≡_ {A = ℕ} 0 1 = cc in absurd (omega arith)
-gave-stopped at b (stopped j) true i n l ih e = ih e
-gave-stopped at b z false i n l ih e = let q : at ≡ i = cc in omega arith
-
-stops-two : (k : Coder) (start : Bool) (at i c d : ℕ) (cs : List ℕ) (n : ℕ) (t : Bool) → at < n
-    → (unspell k false (suc (suc at)) cs ≡ stopped i → i < n) → (unspell k false (suc at) (d ∷ cs) ≡ stopped i → i < n)
-    → pick t (gave at (byteFor k (atEnd start cs) (c ∷ d ∷ [])) (unspell k false (suc (suc at)) cs)) (gave at (byteFor k start (c ∷ [])) (unspell k false (suc at) (d ∷ cs))) ≡ stopped i
-    → i < n
-stops-two k start at i c d cs n true l two one e = gave-stopped at _ _ (ltb (byteFor k (atEnd start cs) (c ∷ d ∷ [])) 256) i n l two e
-stops-two k start at i c d cs n false l two one e = gave-stopped at _ _ (ltb (byteFor k start (c ∷ [])) 256) i n l one e
-
-none-stops : (i n : ℕ) → found [] ≡ stopped i → i < n
-none-stops i n e = let q : _≡_ {A = ℕ} 0 1 = cc in absurd (omega arith)
-
-stops : (k : Coder) (h : List ℕ) (start : Bool) (at i : ℕ) → unspell k start at h ≡ stopped i → i < at + length h
-stops k [] start at i e = none-stops i _ e
-stops k (c ∷ []) start at i e = gave-stopped at _ (found []) (ltb (byteFor k true (c ∷ [])) 256) i _ (omega arith) (none-stops i _) e
-stops k (c ∷ d ∷ cs) start at i e =
-    stops-two k start at i c d cs _ (k .shift c) (omega arith)
-    (λ p. omega (arith, stops k cs false (suc (suc at)) i p)) (λ p. omega (arith, stops k (d ∷ cs) false (suc at) i p)) e
-
 -- ---- a reading as the code holds it
-
-body-short : (k : Coder) (h d : List ℕ) → unspell k true 0 h ≡ found d → length d ≤ length h
-body-short k h d e = spell-long k d h true 0 (unspell-spell k h d true 0 0 e)
 
 -- n characters read back, by the test `bad < n`
 module _ (k : Coder) (codes : List ℕ) (n : ℕ) (l : n ≤ length codes) (r : Spelled) (e : r ≡ spelledIn n (unspell k true 0 (take n codes))) where
   whole-of : n ≤ r .bad → Whole (unspell k true 0 (take n codes)) (r .row)
-  whole-of h = whole-from n _ r e (λ i p. omega (arith, stops k (take n codes) true 0 i p, length-take-le n codes l)) h
+  whole-of h = whole-from n _ r e (λ i p. omega (arith, unspell-stops k (take n codes) true 0 i p, length-take-le n codes l)) h
 
   pub row-short : n ≤ r .bad → r .row .len ≤ n
   row-short h =
       let w : Whole (unspell k true 0 (take n codes)) (r .row) = whole-of h in
-      omega (arith, body-short k (take n codes) (w .body) (w .is), length-take-le n codes l, ap (λ (r : Row). r .len) (w .row-is))
+      omega (arith, unspell-short k (take n codes) (w .body) (w .is), length-take-le n codes l, ap (λ (r : Row). r .len) (w .row-is))
 
 read-stop : (y : Symbology) (m : ℕ) (r : List ℕ) (i : ℕ) → unspell (y .coder) true 0 (headOf m r) ≡ stopped i → told (turned (NoExpansion (charPlace i))) ≡ told (readRow y m r)
 unfolding readRow
@@ -203,10 +175,10 @@ module _ (s m : ℕ) (row : Row) (l : Limits) (e : l ≡ symbologyOf s .limits) 
 -- ---- how many
 
 kept-few : (y : Symbology) (m n : ℕ) (d r : List ℕ) → length r ≤ suc n → Undrew y m d r → length d ≤ suc n
-kept-few y zero n d r l w = omega (arith, body-short _ r (w .body) (w .spells), length-append (w .body) [], ap length (w .is))
+kept-few y zero n d r l w = omega (arith, unspell-short _ r (w .body) (w .spells), length-append (w .body) [], ap length (w .is))
 kept-few y (suc m) n d r l w =
     let s : unspell (y .coder) true 0 (front r) ≡ found (w .body) = rw (ne-eqb (suc m) 0 (omega arith)) at (w .spells) in
-    let h : length (w .body) ≤ n = omega (arith, body-short (y .coder) (front r) (w .body) s, length-take-le (length r - 1) r (omega arith)) in
+    let h : length (w .body) ≤ n = omega (arith, unspell-short (y .coder) (front r) (w .body) s, length-take-le (length r - 1) r (omega arith)) in
     go m w h
   where
     go : (m : ℕ) (w : Undrew y (suc m) d r) → length (w .body) ≤ n → length d ≤ suc n

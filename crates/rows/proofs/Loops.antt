@@ -1,6 +1,6 @@
 -- The loops that spell and read back: what is done, and the same function on what is left.
 --
---   push-in, put-in     a list in a row, with characters behind it
+--   push-in, put-in     a list in a row, with characters behind it; places, its 34 places
 --   Spelling            i bytes are spelled: `start`, `next`, `refused`, `ended`
 --   Unspelling          the same for characters read back
 --
@@ -33,6 +33,14 @@ set-pad : (n : ℕ) (cs : List ℕ) (v : ℕ) → set (pad n cs) (length cs) v �
 set-pad zero cs v = refl
 set-pad (suc n) [] v = refl
 set-pad (suc n) (c ∷ cs) v = ap (λ (l : List ℕ). c ∷ l) (set-pad n cs v)
+
+length-pad : (n : ℕ) (cs : List ℕ) → length (pad n cs) ≡ n
+length-pad zero cs = refl
+length-pad (suc n) [] = ap suc (length-pad n [])
+length-pad (suc n) (c ∷ cs) = ap suc (length-pad n cs)
+
+pub places : (row : Row) (cs : List ℕ) → row ≡ rowIn cs → length (row .codes) ≡ 34
+places row cs e = ap (λ (r : Row). length (r .codes)) e ∙ length-pad 34 cs
 
 pub push-in : (cs : List ℕ) (v : ℕ) → pushed (rowIn cs) v ≡ rowIn (cs ++ (v ∷ []))
 push-in cs v =
@@ -95,8 +103,8 @@ pub record Spelling (k : Coder) (text : List ℕ) (row : Row) (i : ℕ) : Type 0
   pub few : length done ≤ 2 * i
   pub same : spell k true 0 text ≡ join done (spell k (eqb i 0) i (drop i text))
 
-pub start : (k : Coder) (text : List ℕ) (row : Row) → row ≡ rowIn [] → Spelling k text row 0
-start k text row e = record { within = omega arith; done = []; is = e; few = omega arith; same = refl }
+pub start : (k : Coder) (text : List ℕ) → Spelling k text (rowIn []) 0
+start k text = record { within = omega arith; done = []; is = refl; few = omega arith; same = refl }
 
 -- byte i draws a piece, at an end or inside; `nil` is the test that it draws nothing
 module _ (k : Coder) (text : List ℕ) (row : Row) (i : ℕ) (s : Spelling k text row i) (h : i < length text) (end : Bool) (q : end ≡ isEnd i (length text))
@@ -176,8 +184,8 @@ pub record Unspelling (k : Coder) (cs : List ℕ) (text : Row) (at : ℕ) : Type
   pub few : length done ≤ at
   pub same : unspell k true 0 cs ≡ join done (unspell k (eqb at 0) at (drop at cs))
 
-pub begin : (k : Coder) (cs : List ℕ) (text : Row) → text ≡ rowIn [] → Unspelling k cs text 0
-begin k cs text e = record { within = omega arith; done = []; is = e; few = omega arith; same = refl }
+pub begin : (k : Coder) (cs : List ℕ) → Unspelling k cs (rowIn []) 0
+begin k cs = record { within = omega arith; done = []; is = refl; few = omega arith; same = refl }
 
 -- an item is not empty, and not longer than what is left
 wide : (k : Coder) (start : Bool) (c : ℕ) (cs : List ℕ) → (0 < itemOf k start (c ∷ cs) .width) × (itemOf k start (c ∷ cs) .width ≤ length (c ∷ cs))

@@ -2,12 +2,12 @@
 use super::full_ascii;
 use super::full_ascii::Piece;
 use super::row;
-use super::row::Row;
 ghost use mathlib.Core.Path.{_≡_};
 ghost use mathlib.Core.Bool.{Bool, true, false, _&&_};
 ghost use mathlib.Core.List.{List, [], _∷_};
 ghost use Prim.Native.Nat.{_+_, _<_, _≤_};
 ghost use lib.Dec.{eqb, ltb, leb};
+ghost use lib.ListN.{length};
 ghost use Rattle.laws.specs.Search.{pick};
 ghost use Rattle.laws.specs.Spelling.{byteFor};
 ghost use Rattle.tables.specs.Alphabet.{size, valueOf, byteOf};
@@ -76,15 +76,23 @@ pub fn drawn(symbology: u8, end: bool, byte: u8) -> Piece
     }
 }
 
-// A piece's characters behind a row's.
-pub fn put(row: Row, piece: Piece) -> Row
-    requires { ⌜ row .len < 900 ⌝ }
-    ensures { λ r. ⌜ r ≡ putAll row (pieceList piece) ⌝ }
+// A piece's characters behind the first `len` of a row's, and how many there are then.
+pub fn put(codes: &mut [u8; 34], len: usize, piece: Piece) -> usize
+    requires { ⌜ (len < 900) × (length (now codes) ≡ 34) ⌝ }
+    ensures { λ r. ⌜ record { codes = now (codes .exit); len = r } ≡ putAll (record { codes = now (codes .entry); len = len }) (pieceList piece) ⌝ }
+    ensures { λ _. ⌜ length (now (codes .exit)) ≡ 34 ⌝ }
 {
     match piece {
-        Piece::Alone(value) => row::push(row, value),
-        Piece::Pair(shift, letter) => row::push(row::push(row, shift), letter),
-        Piece::Nothing => row,
+        Piece::Alone(value) => {
+            row::store(codes, len, value);
+            len + 1
+        }
+        Piece::Pair(shift, letter) => {
+            row::store(codes, len, shift);
+            row::store(codes, len + 1, letter);
+            len + 2
+        }
+        Piece::Nothing => len,
     }
 }
 

@@ -2,6 +2,7 @@
 ghost use mathlib.Core.Path.{_≡_};
 ghost use mathlib.Core.List.{List, []};
 ghost use Prim.Native.Nat.{_<_};
+ghost use lib.ListN.{length, set};
 ghost use Rattle.rows.specs.Held.{rowIn, pushed};
 
 pub struct Row {
@@ -18,6 +19,16 @@ pub fn empty() -> Row
     }
 }
 
+// A character stored at a place of a row's 34, or nothing past them.
+pub fn store(codes: &mut [u8; 34], at: usize, value: u8)
+    requires { ⌜ length (now codes) ≡ 34 ⌝ }
+    ensures { λ _. ⌜ now (codes .exit) ≡ set (now (codes .entry)) at value ⌝ }
+{
+    if at < 34 {
+        codes[at] = value;
+    }
+}
+
 // A row with one character more.
 pub fn push(row: Row, value: u8) -> Row
     requires { ⌜ row .len < 1000 ⌝ }
@@ -25,8 +36,6 @@ pub fn push(row: Row, value: u8) -> Row
 {
     let at = row.len;
     let mut codes = row.codes;
-    if at < 34 {
-        codes[at] = value;
-    }
+    store(&mut codes, at, value);
     Row { codes, len: at + 1 }
 }

@@ -24,7 +24,8 @@ pub fn spell_text(symbology: u8, text: &[u8]) -> Spelled
     ensures { λ r. ⌜ r ≡ spelledIn (length (now (text .entry))) (spell (symbologyOf symbology .coder) true 0 (now (text .entry))) ⌝ }
 {
     let n = text.len();
-    let mut row = row::empty();
+    let mut codes = [0; 34];
+    let mut len = 0;
     let mut i = 0;
     while i < n {
         let end = coder::is_end(i, n);
@@ -35,10 +36,13 @@ pub fn spell_text(symbology: u8, text: &[u8]) -> Spelled
                 bad: i,
             };
         }
-        row = coder::put(row, piece);
+        len = coder::put(&mut codes, len, piece);
         i += 1;
     }
-    Spelled { row, bad: n }
+    Spelled {
+        row: Row { codes, len },
+        bad: n,
+    }
 }
 
 // A byte, or 256, and the characters that draw it.
@@ -75,7 +79,8 @@ pub fn unspell_row(symbology: u8, row: Row, n: usize) -> Spelled
     requires { ⌜ n ≤ 34 ⌝ }
     ensures { λ r. ⌜ r ≡ spelledIn n (unspell (symbologyOf symbology .coder) true 0 (take n (row .codes))) ⌝ }
 {
-    let mut text = row::empty();
+    let mut text = [0; 34];
+    let mut len = 0;
     let mut at = 0;
     while at < n {
         let item = item_at(symbology, row, at, n);
@@ -86,8 +91,12 @@ pub fn unspell_row(symbology: u8, row: Row, n: usize) -> Spelled
                 bad: at,
             };
         }
-        text = row::push(text, byte as u8);
+        row::store(&mut text, len, byte as u8);
+        len += 1;
         at += item.width;
     }
-    Spelled { row: text, bad: n }
+    Spelled {
+        row: Row { codes: text, len },
+        bad: n,
+    }
 }

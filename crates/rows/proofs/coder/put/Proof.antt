@@ -1,20 +1,29 @@
--- `put`: one `push` for each character of the piece.
+-- `put`: one `store` for each character of the piece.
 -- Assumes nothing.
-use mathlib.Core.Path.{ap, _∙_}
+use mathlib.Core.Path.{_≡_}
+use Prim.Native.Nat.{_+_}
 use native.Mathlib.Omega.{arith}
-use Rattle.rows.specs.declared.row.Row.{Row}
 use borrow.Author.Needs.{needs}
+use lib.ListN.{length, length-set}
 use Rattle.rows.proofs.coder.put.Statement.{statement}
 use Rattle.rows.proofs.coder.put.Tie as tie
 
-push-requires-3 : tie.Need-push-requires-3
-push-requires-3 c κs = omega (arith, ap (λ (r : Row). r .len) (c .push2 .ensures))
+store-requires-3 : tie.Need-store-requires-3
+store-requires-3 c κs =
+    let k : length (c .before .store2 .last .0) ≡ 34 = rw (c .before .store2 .ensures, length-set) (c .before .before .before .before .before .before .pre .1) in k
 
 returns : tie.Need-returns
-returns c = c .push .ensures ∙ rw (c .before .before .piece .given .1)
+returns c =
+    (rw (c .store .ensures, c .before .before .before .piece .given .1), rw (c .store .ensures, length-set) (c .before .before .before .before .before .pre .1))
 
 returns-2 : tie.Need-returns-2
-returns-2 c = c .push3 .ensures ∙ rw (c .before .push2 .ensures, c .before .before .before .piece2 .given .1)
+returns-2 c =
+    let a = c .before .before .before .before .before .before .before in
+    let two : a .args .len + 1 + 1 ≡ a .args .len + 2 = omega arith in
+    (rw (c .store3 .ensures, c .before .before .store2 .ensures, c .before .before .before .before .before .piece2 .given .1, two), rw (c .store3 .ensures, length-set, c .before .before .store2 .ensures, length-set) (a .pre .1))
+
+returns-3 : tie.Need-returns-3
+returns-3 c = (rw (c .enum-told .given .1), c .before .before .pre .1)
 
 pub put-spec : {M : Type 1} → statement M
 put-spec =
@@ -23,9 +32,12 @@ put-spec =
     (λ c. search needs)
     (λ c κs. search needs)
     (λ c. search needs)
+    (λ c. search needs)
     (λ c κs. search needs)
-    push-requires-3
+    (λ c. search needs)
+    store-requires-3
+    (λ c. search needs)
     (λ c. search needs)
     returns
     returns-2
-    (λ c. search needs))
+    returns-3)

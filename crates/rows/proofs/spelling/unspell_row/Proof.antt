@@ -7,36 +7,36 @@ use borrow.Author.Needs.{needs}
 use lib.ListN.{length, take}
 use lib.Seq.{length-take-le}
 use Rattle.rows.specs.Symbologies.{symbologyOf}
-use Rattle.rows.proofs.Loops.{Unspelling, begin, item-refused, item-next, width-fits, read-back, few-bytes}
+use Rattle.rows.proofs.Loops.{Unspelling, begin, item-refused, item-next, width-fits, read-back, few-bytes, places}
 use Rattle.rows.proofs.spelling.unspell_row.Statement.{statement}
 use Rattle.rows.proofs.spelling.unspell_row.Tie as tie
 
 abbrev Inv-loop : tie.InvT-loop
-Inv-loop symbology row n text₀ at₀ text at = Unspelling (symbologyOf symbology .coder) (take n (row .codes)) text at
+Inv-loop symbology row n text₀ len₀ at₀ text len at = Unspelling (symbologyOf symbology .coder) (take n (row .codes)) (record { codes = text; len = len }) at
 
 abbrev μ-loop : tie.MeasureT-loop
-μ-loop symbology row n text₀ at₀ text at = n - at
+μ-loop symbology row n text₀ len₀ at₀ text len at = n - at
 
 loop-holds : tie.Need-loop-holds Inv-loop μ-loop
-loop-holds c = begin _ _ _ (c .empty .ensures)
+loop-holds c = begin _ _
 
 item-at-requires : tie.Need-item-at-requires Inv-loop μ-loop
-item-at-requires c κs = (c .loop-test .taken, c .before .before .before .pre)
+item-at-requires c κs = (c .loop-test .taken, c .before .before .pre)
 
 returns : tie.Need-returns Inv-loop μ-loop
 returns c =
-    let a = c .before .before .before .before .before .before in
-    let long : length (a .args .row .codes) ≡ 34 = search needs in
-    let m : length (take (a .args .n) (a .args .row .codes)) ≡ a .args .n = length-take-le (a .args .n) (a .args .row .codes) (omega (arith, a .pre)) in
-    item-refused _ _ _ _ _ m (c .before .before .before .before .loop .inv) (c .before .before .before .loop-test .taken) (c .before .before .item-at .result)
-    (c .before .before .item-at .ensures) (c .before .if1 .taken) _ (c .empty2 .ensures)
-
-push-requires : tie.Need-push-requires Inv-loop μ-loop
-push-requires c κs =
     let a = c .before .before .before .before .before in
     let long : length (a .args .row .codes) ≡ 34 = search needs in
     let m : length (take (a .args .n) (a .args .row .codes)) ≡ a .args .n = length-take-le (a .args .n) (a .args .row .codes) (omega (arith, a .pre)) in
-    few-bytes _ _ _ _ _ m (c .before .before .before .loop .inv) (a .pre)
+    item-refused _ _ _ _ _ m (c .before .before .before .before .loop .inv) (c .before .before .before .loop-test .taken) (c .before .before .item-at .result)
+    (c .before .before .item-at .ensures) (c .before .if1 .taken) _ (c .empty .ensures)
+
+add-len : tie.Need-add-len Inv-loop μ-loop
+add-len c =
+    let a = c .before .before .before .before .before .before in
+    let long : length (a .args .row .codes) ≡ 34 = search needs in
+    let m : length (take (a .args .n) (a .args .row .codes)) ≡ a .args .n = length-take-le (a .args .n) (a .args .row .codes) (omega (arith, a .pre)) in
+    omega (arith, few-bytes _ _ _ _ _ m (c .before .before .before .before .before .loop .inv) (a .pre))
 
 add-at : tie.Need-add-at Inv-loop μ-loop
 add-at c =
@@ -44,27 +44,27 @@ add-at c =
     let long : length (a .args .row .codes) ≡ 34 = search needs in
     let m : length (take (a .args .n) (a .args .row .codes)) ≡ a .args .n = length-take-le (a .args .n) (a .args .row .codes) (omega (arith, a .pre)) in
     omega
-    (arith, width-fits _ _ _ _ _ m (c .before .before .before .before .before .loop .inv) (c .before .before .before .before .loop-test .taken) (c .before .before .before .item-at .result) (c .before .before .before .item-at .ensures) .1)
+    (arith, width-fits _ _ _ _ _ m (c .before .before .before .before .before .before .loop .inv) (c .before .before .before .before .before .loop-test .taken) (c .before .before .before .before .item-at .result) (c .before .before .before .before .item-at .ensures) .1)
 
 loop-less : tie.Need-loop-less Inv-loop μ-loop
 loop-less c =
     let a = c .before .before .before .before .before .before .before in
     let long : length (a .args .row .codes) ≡ 34 = search needs in
     let m : length (take (a .args .n) (a .args .row .codes)) ≡ a .args .n = length-take-le (a .args .n) (a .args .row .codes) (omega (arith, a .pre)) in
-    omega
-    (arith, width-fits _ _ _ _ _ m (c .before .before .before .before .before .loop .inv) (c .before .before .before .before .loop-test .taken) (c .before .before .before .item-at .result) (c .before .before .before .item-at .ensures) .0, width-fits _ _ _ _ _ m (c .before .before .before .before .before .loop .inv) (c .before .before .before .before .loop-test .taken) (c .before .before .before .item-at .result) (c .before .before .before .item-at .ensures) .1)
+    let w = width-fits _ _ _ _ _ m (c .before .before .before .before .before .before .loop .inv) (c .before .before .before .before .before .loop-test .taken) (c .before .before .before .before .item-at .result) (c .before .before .before .before .item-at .ensures) in
+    omega (arith, w .0, w .1)
 
 loop-again : tie.Need-loop-again Inv-loop μ-loop
 loop-again c =
     let a = c .before .before .before .before .before .before .before in
     let long : length (a .args .row .codes) ≡ 34 = search needs in
     let m : length (take (a .args .n) (a .args .row .codes)) ≡ a .args .n = length-take-le (a .args .n) (a .args .row .codes) (omega (arith, a .pre)) in
-    item-next _ _ _ _ _ m (c .before .before .before .before .before .loop .inv) (c .before .before .before .before .loop-test .taken)
-    (c .before .before .before .item-at .result) (c .before .before .before .item-at .ensures) (c .before .before .if1 .left) _ (c .before .push .ensures)
+    item-next _ _ _ _ _ m (c .before .before .before .before .before .before .loop .inv) (c .before .before .before .before .before .loop-test .taken)
+    (c .before .before .before .before .item-at .result) (c .before .before .before .before .item-at .ensures) (c .before .before .before .if1 .left) _ (rw (c .before .store .ensures))
 
 returns-2 : tie.Need-returns-2 Inv-loop μ-loop
 returns-2 c =
-    let a = c .before .before .before in
+    let a = c .before .before in
     let long : length (a .args .row .codes) ≡ 34 = search needs in
     let m : length (take (a .args .n) (a .args .row .codes)) ≡ a .args .n = length-take-le (a .args .n) (a .args .row .codes) (omega (arith, a .pre)) in
     read-back _ _ _ _ _ m (c .before .loop .inv) (c .loop-test .left)
@@ -75,13 +75,13 @@ unspell-row-spec =
     (tie.spec
     Inv-loop
     μ-loop
-    (λ c κs. search needs)
     loop-holds
     item-at-requires
     (λ c κs. search needs)
     returns
     (λ c. omega arith)
-    push-requires
+    (λ c κs. let s = c .before .before .before .before .loop .inv in places _ (s .done) (s .is))
+    add-len
     add-at
     loop-less
     loop-again
