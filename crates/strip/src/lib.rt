@@ -1,0 +1,50 @@
+// The library's calls: data to strip.
+//
+// `draw` draws data as a strip in a lent buffer, or turns them away with the first of 1, 2, 3, 4, 5, 6, 7, 8 that applies (document
+// 01, "Turned away: numbers and order"); `draw_field` does so for a job record's field, with 13 behind 3. Whatever is turned away
+// changes no byte of the buffer, and on 0 the bytes behind the strip stay.
+//
+// One definition gives the answer and the buffer (specs/Drawing.antt): `drawField`, of which `draw` is the case of a field of just
+// the data's length.
+use rows::Row;
+use rows::Verdict;
+use units::Laid;
+use words::Answer;
+ghost use mathlib.Core.Path.{_≡_};
+ghost use lib.ListN.{length};
+ghost use Rattle.units.specs.Laid.{charsOf, laidOf, laidIn};
+ghost use Rattle.strip.specs.Drawing.{drawData, drawField, answerOf};
+
+// The strip of data.
+pub fn draw(symbology: u8, mode: u8, text: &[u8], out: &mut [u8]) -> Answer
+    ensures { λ r. ⌜ r ≡ drawData symbology mode (now (text .entry)) (now (out .entry)) .answer ⌝ }
+    ensures { λ _. ⌜ now (out .exit) ≡ drawData symbology mode (now (text .entry)) (now (out .entry)) .buffer ⌝ }
+{
+    draw_field(symbology, mode, text.len(), text, out)
+}
+
+// The strip of a job record's field, of which `count` bytes are data and the others must be zero.
+pub fn draw_field(kind: u8, mode: u8, count: usize, field: &[u8], out: &mut [u8]) -> Answer
+    ensures { λ r. ⌜ r ≡ drawField kind mode count (now (field .entry)) (now (out .entry)) .answer ⌝ }
+    ensures { λ _. ⌜ now (out .exit) ≡ drawField kind mode count (now (field .entry)) (now (out .entry)) .buffer ⌝ }
+{
+    let rowed = rows::row_of_field(kind, mode, count, field);
+    let verdict = rowed.verdict;
+    match verdict {
+        Verdict::Turned(answer) => answer,
+        Verdict::Given => lay(kind, rowed.row, out),
+    }
+}
+
+// The answer for a row. A row that was given is one of its symbology, so that the last case can't come.
+fn lay(symbology: u8, row: Row, out: &mut [u8]) -> Answer
+    ensures { λ r. ⌜ r ≡ answerOf (laidOf symbology (charsOf row) (length (now (out .entry)))) ⌝ }
+    ensures { λ _. ⌜ now (out .exit) ≡ laidIn symbology (charsOf row) (now (out .entry)) ⌝ }
+{
+    let laid = units::draw_row(symbology, row, out);
+    match laid {
+        Laid::Strip(elements, modules) => Answer::Drawn(elements, modules),
+        Laid::Short(elements) => Answer::ShortForStrip(elements),
+        Laid::NoRow => Answer::BadCount,
+    }
+}

@@ -1,0 +1,84 @@
+-- Laws of laying out, whatever the symbology: which choices fit a repeated group, and what a strip adds up to. A group has one
+-- free unit, and where every free set is uniform the choice changes neither the elements nor the modules.
+--
+--   One, fits-many    each choice below b fits a group; then k of them fit k groups
+--   Steady            every free set of a shape is uniform; steady-many, steady-shape, of a repeated group and of a shape
+--   steady-good       so it is good
+--   tally, tally-shape    the modules of a shape, and of head, group and tail
+--   steady-sum        a strip of such a shape has that many modules
+--
+-- Assumes nothing.
+use mathlib.Core.Path.{_≡_, refl}
+use mathlib.Core.List.{List, [], _∷_, _++_}
+use Prim.Native.Nat.{ℕ, zero, suc, _+_, _*_, _<_, _≤_}
+use native.Mathlib.Omega.{arith}
+use native.Mathlib.Nat.{le-of-suc-le-suc, not-suc-le-zero}
+use lib.ListN.{length, getD, take, drop}
+use Rattle.laws.specs.Elements.{sum}
+use Rattle.laws.specs.Units.{Kind, fixed, free, rows, width, strip, Fits, All}
+use Rattle.laws.specs.Shapes.{Layout, many, shape}
+use Rattle.laws.proofs.Elements.{sum-append}
+use Rattle.laws.proofs.Shapes.{add-shape}
+use Rattle.laws.proofs.Spelling.{Below}
+use Rattle.tables.proofs.Good.{Uniform}
+
+-- ---- what fits
+
+fits-append : (a b : List Kind) (cs ds : List ℕ) → Fits a cs → Fits b ds → Fits (a ++ b) (cs ++ ds)
+fits-append [] b [] ds f g = g
+fits-append [] b (c ∷ cs) ds f g = absurd f
+fits-append (fixed r ∷ a) b cs ds f g = fits-append a b cs ds f g
+fits-append (free k ∷ a) b [] ds f g = absurd f
+fits-append (free k ∷ a) b (c ∷ cs) ds f g = (f .0, fits-append a b cs ds (f .1) g)
+
+abbrev pub One : ℕ → List Kind → Type 0
+One b group = (c : ℕ) → c < b → Fits group (c ∷ [])
+
+pub fits-many : (b : ℕ) (group rest : List Kind) → One b group → (k : ℕ) (cs : List ℕ) → k ≤ length cs → Below b (take k cs) → Fits rest (drop k cs)
+    → Fits (many k group rest) cs
+fits-many b g rest o zero cs l p f = f
+fits-many b g rest o (suc k) [] l p f = absurd (not-suc-le-zero l)
+fits-many b g rest o (suc k) (c ∷ cs) l p f =
+    fits-append g (many k g rest) (c ∷ []) cs (o c (p .0)) (fits-many b g rest o k cs (le-of-suc-le-suc l) (p .1) f)
+
+-- ---- what it adds up to
+
+abbrev pub Steady : List Kind → Type 0
+Steady [] = Unit {0}
+Steady (fixed r ∷ ks) = Steady ks
+Steady (free k ∷ ks) = Uniform (width (free k)) (sum (getD k 0 [])) k × Steady ks
+
+steady-append : (a b : List Kind) → Steady a → Steady b → Steady (a ++ b)
+steady-append [] b g h = h
+steady-append (fixed r ∷ a) b g h = steady-append a b g h
+steady-append (free k ∷ a) b g h = (g .0, steady-append a b (g .1) h)
+
+pub steady-many : (n : ℕ) (group rest : List Kind) → Steady group → Steady rest → Steady (many n group rest)
+steady-many zero group rest g h = h
+steady-many (suc n) group rest g h = steady-append group (many n group rest) g (steady-many n group rest g h)
+
+pub steady-shape : (l : Layout) (n : ℕ) → Steady (l .head) → Steady (l .group) → Steady (l .tail) → Steady (shape l n)
+steady-shape l n a b c = steady-append (l .head) (many n (l .group) (l .tail)) a (steady-many n (l .group) (l .tail) b c)
+
+pub steady-good : (ks : List Kind) → Steady ks → All ks
+steady-good [] g = tt
+steady-good (fixed r ∷ ks) g = steady-good ks g
+steady-good (free k ∷ ks) g = (g .0 .good, steady-good ks (g .1))
+
+abbrev pub tally : List Kind → ℕ
+tally [] = 0
+tally (k ∷ ks) = sum (getD (rows k) 0 []) + tally ks
+
+tally-append : (a b : List Kind) → tally (a ++ b) ≡ tally a + tally b
+tally-append [] b = omega arith
+tally-append (k ∷ a) b = omega (arith, tally-append a b)
+
+pub tally-shape : (l : Layout) (n : ℕ) → tally (shape l n) ≡ tally (l .head) + (n * tally (l .group) + tally (l .tail))
+tally-shape = add-shape tally tally-append
+
+pub steady-sum : (ks : List Kind) (cs : List ℕ) → Steady ks → Fits ks cs → sum (strip ks cs) ≡ tally ks
+steady-sum [] [] g f = refl
+steady-sum [] (c ∷ cs) g f = absurd f
+steady-sum (fixed r ∷ ks) cs g f = rw sum-append (omega (arith, steady-sum ks cs g f))
+steady-sum (free k ∷ ks) [] g f = absurd f
+steady-sum (free k ∷ ks) (c ∷ cs) g f = rw sum-append (omega (arith, g .0 .same c (f .0), steady-sum ks cs (g .1) (f .1)))

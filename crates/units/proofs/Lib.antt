@@ -1,0 +1,12 @@
+pub mod Laying
+pub mod Counted
+pub mod Ready
+pub mod Totals
+pub mod Putting
+pub mod Sets
+pub mod Parts
+pub mod Given
+pub mod Sides
+pub mod Passes
+pub mod Drawn
+pub mod Only

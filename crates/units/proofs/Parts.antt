@@ -1,0 +1,222 @@
+-- The strip of each symbology as the code puts it together: head, units, tail, each a stretch of the ready-made rows.
+--
+--   row-of        a table's rows stand where they are cut, by one computed test
+--   units-of      n times a group of one character: its rows one behind the other
+--   pairs-of      n pairs
+--   within-below  the rows of characters of a set lie within the text
+--   strip39 .. stripUpc    the strip of each symbology
+--
+-- Assumes nothing.
+use mathlib.Core.Path.{_≡_, refl, sym, ap, _∙_}
+use mathlib.Core.Bool.{Bool, true, false}
+use mathlib.Core.List.{List, [], _∷_, _++_, append-assoc, append-nil}
+use Prim.Native.Nat.{ℕ, zero, suc, _+_, _*_, _-_, _/_, _<_, _≤_}
+use native.Mathlib.Omega.{arith}
+use native.Mathlib.Nat.{mul-le-mul-left, mul-suc}
+use lib.ListN.{length, getD, take, length-append}
+use Rattle.laws.specs.Elements.{alike}
+use Rattle.laws.specs.Units.{Kind, fixed, free, strip}
+use Rattle.laws.specs.Shapes.{many, shape, gap}
+use Rattle.laws.proofs.Finite.{upto, upto-at, every, every-at}
+use Rattle.laws.proofs.Elements.{alike-true}
+use Rattle.laws.proofs.Spelling.{Below}
+use Rattle.tables.specs.Bits.{weave}
+use Rattle.tables.specs.Alphabet.{rowsOf, bitsOf}
+use Rattle.tables.specs.Code39.{table42, chars39, alphabet39, rows39, star39}
+use Rattle.tables.specs.Codabar.{table41, alphabetCodabar, innerRows, letterRows}
+use Rattle.tables.specs.TwoOfFive.{table44, alphabetDigits, digitRows, industrialRows, industrialStart, industrialStop, interleavedRows, interleavedStart, interleavedStop, matrixRows, matrixEnds}
+use Rattle.tables.specs.Ean.{table52, patterns, oddRows, evenRows, leftRows, rightRows, guard, centre}
+use Rattle.units.specs.Plans.{code39, codabar, industrial, interleaved, matrix, halves, lettered, paired, plans, planOf, unitsOf, stripOf}
+use Rattle.units.specs.Totals.{elementsOf}
+use Rattle.units.specs.Room.{cut, parted, unitsIn, Within, pairsIn, leftIn, rightIn, text39, textCodabar, textIndustrial, textInterleaved, textMatrix, textEan}
+use Rattle.units.proofs.Putting.{three}
+
+-- ---- rows where they are cut
+
+abbrev pub row-test : List ℕ → ℕ → ℕ → (List ℕ → List ℕ) → List (List ℕ) → Bool
+row-test t base k f rows = every [] (λ c row. alike (cut t (base + k * c) k) (f row)) 0 rows
+
+pub row-of : (t : List ℕ) (base k : ℕ) (f : List ℕ → List ℕ) (rows : List (List ℕ)) → row-test t base k f rows ≡ true
+    → (c : ℕ) → c < length rows → cut t (base + k * c) k ≡ f (getD rows c [])
+row-of t base k f rows e c h = alike-true _ _ (every-at [] (λ c row. alike (cut t (base + k * c) k) (f row)) rows e c h)
+
+pub within-below : (long base k size : ℕ) (cs : List ℕ) → base + k * size ≤ long → Below size cs → Within long base k cs
+within-below long base k size [] h b = tt
+within-below long base k size (c ∷ cs) h b =
+    (omega (arith, mul-suc k c, mul-le-mul-left k (b .0)), within-below long base k size cs h (b .1))
+
+-- ---- n times a group
+
+-- a group that shows one character as k elements of the text
+abbrev pub Shows : List ℕ → ℕ → ℕ → ℕ → List Kind → Type 0
+Shows t base k size group = (c : ℕ) → c < size → (ks : List Kind) (cs : List ℕ) → strip (group ++ ks) (c ∷ cs) ≡ cut t (base + k * c) k ++ strip ks cs
+
+pub units-of : (t : List ℕ) (base k size : ℕ) (group rest : List Kind) → Shows t base k size group → (cs ds : List ℕ) → Below size cs
+    → strip (many (length cs) group rest) (cs ++ ds) ≡ unitsIn t base k cs ++ strip rest ds
+units-of t base k size group rest s [] ds b = refl
+units-of t base k size group rest s (c ∷ cs) ds b =
+    s c (b .0) (many (length cs) group rest) (cs ++ ds)
+    ∙ ap (λ (x : List ℕ). cut t (base + k * c) k ++ x) (units-of t base k size group rest s cs ds (b .1))
+    ∙ sym (append-assoc (cut t (base + k * c) k) (unitsIn t base k cs) (strip rest ds))
+
+-- with a parting space, or without
+pub shows-parted : (t : List ℕ) (base k : ℕ) (rows : List (List ℕ)) → row-test t base k parted rows ≡ true
+    → Shows t base k (length rows) (free rows ∷ gap ∷ [])
+shows-parted t base k rows e c h ks cs =
+    rw (row-of t base k parted rows e c h) (sym (append-assoc (getD rows c []) (1 ∷ []) (strip ks cs)))
+
+pub shows : (t : List ℕ) (base k : ℕ) (rows : List (List ℕ)) → row-test t base k (λ r. r) rows ≡ true
+    → Shows t base k (length rows) (free rows ∷ [])
+shows t base k rows e c h ks cs = rw (row-of t base k (λ r. r) rows e c h)
+
+-- ---- Code 39, Industrial, Matrix: a start, the characters, a stop, parted
+
+abbrev pub parts : ℕ → ℕ → ℕ → ℕ → ℕ → List ℕ → List ℕ → List ℕ
+parts k hf hk tf tk r t = cut t hf hk ++ unitsIn t 0 k r ++ cut t tf tk
+
+pub between-ends : (t : List ℕ) (k hf hk tf tk : ℕ) (rows : List (List ℕ)) (start stop : List ℕ) → row-test t 0 k parted rows ≡ true
+    → cut t hf hk ≡ parted start → cut t tf tk ≡ stop → (r : List ℕ) → Below (length rows) r
+    → strip (fixed start ∷ gap ∷ many (length r) (free rows ∷ gap ∷ []) (fixed stop ∷ [])) r ≡ cut t hf hk ++ unitsIn t 0 k r ++ cut t tf tk
+between-ends t k hf hk tf tk rows start stop e a z r b =
+    let u : strip (many (length r) (free rows ∷ gap ∷ []) (fixed stop ∷ [])) (r ++ []) ≡ unitsIn t 0 k r ++ (stop ++ [])
+    = units-of t 0 k (length rows) (free rows ∷ gap ∷ []) (fixed stop ∷ []) (shows-parted t 0 k rows e) r [] b in
+    let v : strip (many (length r) (free rows ∷ gap ∷ []) (fixed stop ∷ [])) r ≡ unitsIn t 0 k r ++ stop
+    = ap (λ (x : List ℕ). strip (many (length r) (free rows ∷ gap ∷ []) (fixed stop ∷ [])) x) (sym (append-nil r)) ∙ u ∙ ap (λ (x : List ℕ). unitsIn t 0 k r ++ x) (append-nil stop) in
+    rw (a, z) (ap (λ (x : List ℕ). start ++ ((1 ∷ []) ++ x)) v ∙ sym (append-assoc start (1 ∷ []) (unitsIn t 0 k r ++ stop)) ∙ sym (append-assoc (parted start) (unitsIn t 0 k r) stop))
+
+-- the three calls that put it there
+pub built : (s k hf hk tf tk : ℕ) (text t r e₁ e₂ e₃ : List ℕ) (n a b : ℕ) → t ≡ text → stripOf s r ≡ parts k hf hk tf tk r text
+    → take hk e₁ ≡ cut t hf hk → a ≡ hk → take (a + k * n) e₂ ≡ take a e₁ ++ unitsIn t 0 k r → b ≡ a + k * n
+    → take (b + tk) e₃ ≡ take b e₂ ++ cut t tf tk → elementsOf s n ≡ b + tk → take (elementsOf s n) e₃ ≡ stripOf s r
+built s k hf hk tf tk text t r e₁ e₂ e₃ n a b q f x d y g w l =
+    three e₁ e₂ e₃ (cut t hf hk) (unitsIn t 0 k r) (cut t tf tk) hk a b (k * n) tk (elementsOf s n) x d y g w l ∙ ap (parts k hf hk tf tk r) q ∙ sym f
+
+pub strip39 : (r : List ℕ) → Below 43 r → stripOf 1 r ≡ cut text39 430 10 ++ unitsIn text39 0 10 r ++ cut text39 430 9
+unfolding stripOf unitsOf planOf plans code39 text39 rows39 star39 rowsOf bitsOf alphabet39 chars39 table42
+strip39 = between-ends text39 10 430 10 430 9 rows39 star39 star39 refl refl refl
+
+pub stripIndustrial : (r : List ℕ) → Below 10 r → stripOf 4 r ≡ cut textIndustrial 100 6 ++ unitsIn textIndustrial 0 10 r ++ cut textIndustrial 106 5
+unfolding stripOf unitsOf planOf plans industrial textIndustrial industrialRows industrialStart industrialStop digitRows rowsOf alphabetDigits table44
+stripIndustrial = between-ends textIndustrial 10 100 6 106 5 industrialRows industrialStart industrialStop refl refl refl
+
+pub stripMatrix : (r : List ℕ) → Below 10 r → stripOf 6 r ≡ cut textMatrix 60 6 ++ unitsIn textMatrix 0 6 r ++ cut textMatrix 60 5
+unfolding stripOf unitsOf planOf plans matrix textMatrix matrixRows matrixEnds digitRows rowsOf alphabetDigits table44
+stripMatrix = between-ends textMatrix 6 60 6 60 5 matrixRows matrixEnds matrixEnds refl refl refl
+
+-- ---- Codabar: letters at both ends
+
+shows-inner : Shows textCodabar 0 8 16 (free innerRows ∷ gap ∷ [])
+unfolding textCodabar innerRows letterRows rowsOf alphabetCodabar table41
+shows-inner = shows-parted textCodabar 0 8 innerRows refl
+
+-- a letter with its parting space, and without
+letter-parted : (c : ℕ) → c < 4 → cut textCodabar (128 + 8 * c) 8 ≡ parted (getD letterRows c [])
+unfolding textCodabar innerRows letterRows rowsOf alphabetCodabar table41
+letter-parted = row-of textCodabar 128 8 parted letterRows refl
+
+letter-alone : (c : ℕ) → c < 4 → cut textCodabar (128 + 8 * c) 7 ≡ getD letterRows c []
+unfolding textCodabar innerRows letterRows rowsOf alphabetCodabar table41
+letter-alone c h = alike-true _ _ (every-at [] (λ c row. alike (cut textCodabar (128 + 8 * c) 7) row) letterRows refl c h)
+
+lettered-inner : (mid : List ℕ) (z : ℕ) → lettered false (mid ++ (z ∷ [])) ≡ mid ++ ((z - 16) ∷ [])
+lettered-inner [] z = refl
+lettered-inner (c ∷ []) z = refl
+lettered-inner (c ∷ d ∷ mid) z = ap (λ (x : List ℕ). c ∷ x) (lettered-inner (d ∷ mid) z)
+
+lettered-all : (a : ℕ) (mid : List ℕ) (z : ℕ) → lettered true (a ∷ (mid ++ (z ∷ []))) ≡ (a - 16) ∷ (mid ++ ((z - 16) ∷ []))
+lettered-all a [] z = refl
+lettered-all a (c ∷ mid) z = ap (λ (x : List ℕ). (a - 16) ∷ x) (lettered-inner (c ∷ mid) z)
+
+inner-count : (mid : List ℕ) (a z : ℕ) → length (a ∷ (mid ++ (z ∷ []))) - 2 ≡ length mid
+inner-count mid a z = let e : length (mid ++ (z ∷ [])) ≡ length mid + 1 = length-append mid (z ∷ []) in omega arith
+
+abbrev codabarUnits : ℕ → List Kind
+codabarUnits n = free letterRows ∷ gap ∷ many n (free innerRows ∷ gap ∷ []) (free letterRows ∷ [])
+
+codabar-parts : (l y : ℕ) (mid : List ℕ) → l < 4 → y < 4 → Below 16 mid
+    → strip (codabarUnits (length mid)) (l ∷ (mid ++ (y ∷ []))) ≡ cut textCodabar (128 + 8 * l) 8 ++ unitsIn textCodabar 0 8 mid ++ cut textCodabar (128 + 8 * y) 7
+codabar-parts l y mid h k b =
+    let u : strip (many (length mid) (free innerRows ∷ gap ∷ []) (free letterRows ∷ [])) (mid ++ (y ∷ [])) ≡ unitsIn textCodabar 0 8 mid ++ (getD letterRows y [] ++ [])
+    = units-of textCodabar 0 8 16 (free innerRows ∷ gap ∷ []) (free letterRows ∷ []) shows-inner mid (y ∷ []) b in
+    let v : getD letterRows y [] ++ [] ≡ cut textCodabar (128 + 8 * y) 7 = append-nil (getD letterRows y []) ∙ sym (letter-alone y k) in
+    ap (λ (x : List ℕ). getD letterRows l [] ++ ((1 ∷ []) ++ x)) (u ∙ ap (λ (x : List ℕ). unitsIn textCodabar 0 8 mid ++ x) v)
+    ∙ sym (append-assoc (getD letterRows l []) (1 ∷ []) (unitsIn textCodabar 0 8 mid ++ cut textCodabar (128 + 8 * y) 7))
+    ∙ ap (λ (x : List ℕ). x ++ (unitsIn textCodabar 0 8 mid ++ cut textCodabar (128 + 8 * y) 7)) (sym (letter-parted l h))
+    ∙ sym (append-assoc (cut textCodabar (128 + 8 * l) 8) (unitsIn textCodabar 0 8 mid) (cut textCodabar (128 + 8 * y) 7))
+
+pub stripCodabar : (a : ℕ) (mid : List ℕ) (z : ℕ) → 16 ≤ a → a < 20 → Below 16 mid → 16 ≤ z → z < 20
+    → stripOf 3 (a ∷ (mid ++ (z ∷ []))) ≡ unitsIn textCodabar 0 8 (a ∷ mid) ++ cut textCodabar (8 * z) 7
+unfolding stripOf unitsOf planOf plans codabar
+stripCodabar a mid z ha ka b hz kz =
+    let la : 128 + 8 * (a - 16) ≡ 0 + 8 * a = omega arith in
+    let lz : 128 + 8 * (z - 16) ≡ 8 * z = omega arith in
+    ap (λ (n : ℕ). strip (codabarUnits n) (lettered true (a ∷ (mid ++ (z ∷ []))))) (inner-count mid a z)
+    ∙ ap (strip (codabarUnits (length mid))) (lettered-all a mid z)
+    ∙ codabar-parts (a - 16) (z - 16) mid (omega arith) (omega arith) b
+    ∙ ap (λ (n : ℕ). cut textCodabar n 8 ++ unitsIn textCodabar 0 8 mid ++ cut textCodabar (128 + 8 * (z - 16)) 7) la
+    ∙ ap (λ (n : ℕ). unitsIn textCodabar 0 8 (a ∷ mid) ++ cut textCodabar n 7) lz
+
+-- ---- Interleaved: pairs
+
+pair-rows : (a b : ℕ) → a < 10 → b < 10 → getD interleavedRows (10 * a + b) [] ≡ weave (cut textInterleaved (5 * a) 5) (cut textInterleaved (5 * b) 5)
+unfolding textInterleaved interleavedRows interleavedStart interleavedStop digitRows rowsOf alphabetDigits table44
+pair-rows a b h k =
+    alike-true _ _
+    (upto-at 10 (λ b. pair-test a b) (upto-at 10 (λ a. upto 10 (λ b. pair-test a b)) refl a h) b k)
+  where
+    pair-test : ℕ → ℕ → Bool
+    pair-test a b = alike (getD interleavedRows (10 * a + b) []) (weave (cut textInterleaved (5 * a) 5) (cut textInterleaved (5 * b) 5))
+
+pub pairs-of : (i : ℕ) (rest : List Kind) (r : List ℕ) → length r ≡ 2 * i → Below 10 r
+    → strip (many i (free interleavedRows ∷ []) rest) (paired r) ≡ pairsIn textInterleaved r ++ strip rest []
+pairs-of zero rest [] l b = refl
+pairs-of zero rest (a ∷ r) l b = absurd (omega arith)
+pairs-of (suc i) rest [] l b = absurd (omega arith)
+pairs-of (suc i) rest (a ∷ []) l b = absurd (omega arith)
+pairs-of (suc i) rest (a ∷ c ∷ r) l b =
+    rw (pair-rows a c (b .0) (b .1 .0), pairs-of i rest r (omega arith) (b .1 .1)) (sym (append-assoc (weave (cut textInterleaved (5 * a) 5) (cut textInterleaved (5 * c) 5)) (pairsIn textInterleaved r) (strip rest [])))
+
+pub stripInterleaved : (r : List ℕ) → length r ≡ 2 * (length r / 2) → Below 10 r
+    → stripOf 5 r ≡ cut textInterleaved 50 4 ++ pairsIn textInterleaved r ++ cut textInterleaved 54 3
+unfolding stripOf unitsOf planOf plans interleaved textInterleaved interleavedStart interleavedStop digitRows rowsOf alphabetDigits table44
+stripInterleaved r e b =
+    ap (λ (x : List ℕ). cut textInterleaved 50 4 ++ x) (pairs-of (length r / 2) (fixed interleavedStop ∷ []) r e b)
+    ∙ sym (append-assoc (cut textInterleaved 50 4) (pairsIn textInterleaved r) (cut textInterleaved 54 3))
+
+-- ---- EAN and UPC: two halves
+
+many-append : (n : ℕ) (group rest more : List Kind) → many n group rest ++ more ≡ many n group (rest ++ more)
+many-append zero group rest more = refl
+many-append (suc n) group rest more = append-assoc group (many n group rest) more ∙ ap (λ (x : List Kind). group ++ x) (many-append n group rest more)
+
+four : (a b c d : List ℕ) → a ++ (b ++ (c ++ d)) ≡ a ++ b ++ c ++ d
+four a b c d = sym (append-assoc a b (c ++ d)) ∙ sym (append-assoc (a ++ b) c d)
+
+shows-right : Shows textEan 80 4 10 (free rightRows ∷ [])
+unfolding textEan oddRows evenRows rightRows guard centre patterns table52
+shows-right = shows textEan 80 4 rightRows refl
+
+pub shows-left : Shows textEan 0 4 20 (free leftRows ∷ [])
+unfolding textEan leftRows oddRows evenRows rightRows guard centre patterns table52
+shows-left = shows textEan 0 4 leftRows refl
+
+pub shows-odd : Shows textEan 0 4 10 (free oddRows ∷ [])
+unfolding textEan oddRows evenRows rightRows guard centre patterns table52
+shows-odd = shows textEan 0 4 oddRows refl
+
+pub two-halves : (size : ℕ) (left : List (List ℕ)) → Shows textEan 0 4 size (free left ∷ []) → (cs ds : List ℕ) → Below size cs → Below 10 ds → length ds ≡ length cs
+    → strip (shape (halves (length cs) left) (length ds)) (cs ++ ds)
+    ≡ leftIn textEan cs ++ rightIn textEan ds
+unfolding halves textEan guard centre oddRows evenRows rightRows patterns table52
+two-halves size left s cs ds b c l =
+    let right : strip (many (length ds) (free rightRows ∷ []) (fixed guard ∷ [])) (ds ++ []) ≡ unitsIn textEan 80 4 ds ++ (guard ++ [])
+    = units-of textEan 80 4 10 (free rightRows ∷ []) (fixed guard ∷ []) shows-right ds [] c in
+    let all : strip (many (length cs) (free left ∷ []) (fixed centre ∷ many (length ds) (free rightRows ∷ []) (fixed guard ∷ []))) (cs ++ (ds ++ []))
+    ≡ unitsIn textEan 0 4 cs ++ (centre ++ strip (many (length ds) (free rightRows ∷ []) (fixed guard ∷ [])) (ds ++ []))
+    = units-of textEan 0 4 size (free left ∷ []) (fixed centre ∷ many (length ds) (free rightRows ∷ []) (fixed guard ∷ [])) s cs (ds ++ []) b in
+    let parts : strip (many (length cs) (free left ∷ []) (fixed centre ∷ many (length ds) (free rightRows ∷ []) (fixed guard ∷ []))) (cs ++ ds)
+    ≡ unitsIn textEan 0 4 cs ++ (cut textEan 123 5 ++ rightIn textEan ds)
+    = rw (append-nil ds) at (all ∙ ap (λ (x : List ℕ). unitsIn textEan 0 4 cs ++ (centre ++ x)) right) in
+    rw (many-append (length cs) (free left ∷ []) (fixed centre ∷ []) (many (length ds) (free rightRows ∷ []) (fixed guard ∷ [])))
+    (ap (λ (x : List ℕ). cut textEan 120 3 ++ x) parts
+    ∙ four (cut textEan 120 3) (unitsIn textEan 0 4 cs) (cut textEan 123 5) (rightIn textEan ds))

@@ -1,0 +1,223 @@
+-- How the code checks a row and counts its modules: test by test, and one character a turn.
+--
+--   no-first, past-first    a conjunction by its first test: false where that fails, and else what is left
+--   too-few, too-many, in-steps    a count against its bounds
+--   one-two, four-six    the symbologies that are counted as Code 39
+--   uncounted, Unmatched, uncounted-past    the numbers that count nothing
+--   last-arm     the numbers that have no arm of their own: 7 and 9
+--   sized-39, sized-digits    the size of a set
+--   left-cons    the characters that are left, one of them taken
+--   too-low, too-high, passed, all-passed    the loop over characters of one range
+--   lettered-at    Codabar: the first, the inner ones, the last
+--   ready-by, ready-rest, in-set    a row in the first n places of an array; past its count; outside Codabar, its characters
+--   class-between    a Codabar character takes 12 to 14 modules
+--   Sum, sum-start, sum-more, sum-end, codabar-some    the loop over Codabar's characters, and that it counts something
+--
+-- Assumes nothing.
+use mathlib.Core.Path.{_≡_, refl, sym, _∙_}
+use mathlib.Core.Bool.{Bool, true, false, _&&_, not, and-true, and-assoc}
+use mathlib.Core.List.{List, [], _∷_, _++_}
+use mathlib.Core.Logic.{_⊎_, inl, inr}
+use Prim.Native.Nat.{ℕ, zero, suc, _+_, _*_, _-_, _%_, _<_, _≤_}
+use native.Mathlib.Omega.{arith}
+use native.Mathlib.Nat.{zero-add}
+use native.Mathlib.Numerals.{add-one}
+use lib.Dec.{eqb, ltb, leb}
+use lib.ListN.{length, getD, take, drop}
+use lib.Seq.{length-take-le, drop-cons, take-suc}
+use borrow.Author.Tests.{lt-ltb, le-ltb, le-leb, lt-leb, ne-eqb}
+use Rattle.laws.specs.Search.{pick}
+use Rattle.laws.specs.Spelling.{atEnd}
+use Rattle.laws.proofs.Finite.{from-at}
+use Rattle.laws.proofs.Arms.{Off}
+use Rattle.tables.specs.Alphabet.{size}
+use Rattle.tables.specs.Code39.{chars39, alphabet39}
+use Rattle.tables.specs.TwoOfFive.{table44, alphabetDigits}
+use Rattle.rows.specs.Symbologies.{symbologies, symbologyOf}
+use Rattle.rows.proofs.Numbers.{others}
+use Rattle.units.specs.Laid.{counted, allAllowed, ready}
+use Rattle.units.specs.Room.{inSteps, allIn}
+use Rattle.units.specs.Totals.{ofCodabar}
+use Rattle.units.proofs.Counted.{counted-codabar, known, by-number}
+use Rattle.units.proofs.Given.{count}
+use Rattle.units.proofs.Sets.{counts1, counts2, counts4, counts6, allowed-in}
+
+-- ---- a conjunction by its first test, which a call answered
+
+pub no-first : (x a b r : Bool) → x ≡ (a && b) → r ≡ a → not r ≡ true → false ≡ x
+no-first x true b true e q n = cc
+no-first x true b false e q n = cc
+no-first x false b r e q n = sym e
+
+pub past-first : (x a b r : Bool) → x ≡ (a && b) → r ≡ a → not r ≡ false → x ≡ b
+past-first x true b r e q n = e
+past-first x false b true e q n = cc
+past-first x false b false e q n = cc
+
+-- ---- counts
+
+module _ (least most step n : ℕ) where
+  pub too-few : n < least → false ≡ inSteps least most step n
+  too-few h = rw (lt-leb least n h)
+
+  pub too-many : least ≤ n → most < n → false ≡ inSteps least most step n
+  too-many h k = rw (le-leb least n h, lt-leb n most k)
+
+  pub in-steps : least ≤ n → n ≤ most → eqb (n % step) 0 ≡ inSteps least most step n
+  in-steps h k = rw (le-leb least n h, le-leb n most k)
+
+-- ---- the arms that take more than one number
+
+pub one-two : (s n : ℕ) → n ≤ 34 → 1 ≤ s → s < 3 → inSteps 1 32 1 n ≡ counted s n
+one-two s n h = from-at (λ s. inSteps 1 32 1 n ≡ counted s n) 1 2 (sym (counts1 n h), (sym (counts2 n h), tt)) s
+
+pub four-six : (s n : ℕ) → n ≤ 34 → (s ≡ 4) ⊎ (s ≡ 6) → inSteps 1 32 1 n ≡ counted s n
+four-six s n h (inl e) = rw e (sym (counts4 n h))
+four-six s n h (inr e) = rw e (sym (counts6 n h))
+
+unless : (b : Bool) → (b ≡ true → ⊥) → false ≡ b
+unless true f = absurd (f refl)
+unless false f = refl
+
+pub uncounted : (s n : ℕ) → ((0 < s) × (s < 10) → ⊥) → false ≡ counted s n
+uncounted s n f = unless (counted s n) (λ e. f (known s n e))
+
+-- none of the arms for 3 to 9, as the checker hands it over
+abbrev pub Unmatched : ℕ → Type 0
+Unmatched s = (((((Unit {0} × ((s ≡ 4) ⊎ (s ≡ 6) → ⊥)) × (s ≡ 3 → ⊥)) × (s ≡ 5 → ⊥)) × (s ≡ 7 → ⊥)) × (s ≡ 8 → ⊥)) × (s ≡ 9 → ⊥)
+
+three-to-nine : (s : ℕ) → 3 ≤ s → s < 10 → Unmatched s → ⊥
+three-to-nine =
+    from-at (λ s. Unmatched s → ⊥) 3 7 (
+      λ o. o .0 .0 .0 .0 .1 refl,
+      (
+        λ o. o .0 .0 .0 .0 .0 .1 (inl refl),
+        (
+          λ o. o .0 .0 .0 .1 refl,
+          (λ o. o .0 .0 .0 .0 .0 .1 (inr refl), (λ o. o .0 .0 .1 refl, (λ o. o .0 .1 refl, (λ o. o .1 refl, tt)))),
+        ),
+      ),
+    )
+
+pub uncounted-past : (s n : ℕ) → 3 ≤ s → Unmatched s → false ≡ counted s n
+uncounted-past s n h o = uncounted s n (λ k. three-to-nine s h (k .1) o)
+
+pub last-arm : (P : ℕ → Type 0) → P 7 → P 9 → (s n : ℕ) → counted s n ≡ true → 3 ≤ s → Off (8 ∷ 6 ∷ 5 ∷ 4 ∷ 3 ∷ []) s → P s
+last-arm P p q =
+    by-number (λ s. 3 ≤ s → Off (8 ∷ 6 ∷ 5 ∷ 4 ∷ 3 ∷ []) s → P s) (
+      λ h o. absurd (omega arith),
+      (
+        λ h o. absurd (omega arith),
+        (
+          λ h o. absurd (o .0 .0 .0 .0 .1 refl),
+          (
+            λ h o. absurd (o .0 .0 .0 .1 refl),
+            (λ h o. absurd (o .0 .0 .1 refl), (λ h o. absurd (o .0 .1 refl), (λ h o. p, (λ h o. absurd (o .1 refl), (λ h o. q, tt))))),
+          ),
+        ),
+      ),
+    )
+
+pub sized-39 : (s : ℕ) → 1 ≤ s → s < 3 → 43 ≡ size (symbologyOf s .alphabet)
+unfolding symbologyOf symbologies alphabet39 chars39
+sized-39 = from-at (λ s. 43 ≡ size (symbologyOf s .alphabet)) 1 2 (refl, (refl, tt))
+
+pub sized-digits : (s : ℕ) → (s ≡ 1 → ⊥) → (s ≡ 2 → ⊥) → (s ≡ 3 → ⊥) → 10 ≡ size (symbologyOf s .alphabet)
+unfolding alphabetDigits table44
+sized-digits s a b c = rw (others s a b c .alphabet)
+
+-- ---- the characters that are left
+
+left-cons : (codes : List ℕ) (i to : ℕ) → i < to → to ≤ length codes → take (to - i) (drop i codes) ≡ getD codes i 0 ∷ take (to - (i + 1)) (drop (i + 1) codes)
+left-cons codes i to h k =
+    let n : to - i ≡ suc (to - (i + 1)) = omega arith in
+    rw (n, drop-cons codes i 0 (omega arith), add-one i) refl
+
+module _ (low high : ℕ) (codes : List ℕ) (i to : ℕ) where
+  pub too-low : i < to → to ≤ length codes → getD codes i 0 < low → allIn low high (take (to - i) (drop i codes)) ≡ false
+  too-low h k l = rw (left-cons codes i to h k, lt-leb low (getD codes i 0) l)
+
+  pub too-high : i < to → to ≤ length codes → low ≤ getD codes i 0 → high ≤ getD codes i 0 → allIn low high (take (to - i) (drop i codes)) ≡ false
+  too-high h k l g = rw (left-cons codes i to h k, le-leb low (getD codes i 0) l, le-ltb (getD codes i 0) high g)
+
+  pub passed : i < to → to ≤ length codes → low ≤ getD codes i 0 → getD codes i 0 < high
+      → allIn low high (take (to - i) (drop i codes)) ≡ allIn low high (take (to - (i + 1)) (drop (i + 1) codes))
+  passed h k l g = rw (left-cons codes i to h k, le-leb low (getD codes i 0) l, lt-ltb (getD codes i 0) high g)
+
+  pub all-passed : to ≤ i → allIn low high (take (to - i) (drop i codes)) ≡ true
+  all-passed h = let n : to - i ≡ 0 = omega arith in rw n
+
+-- ---- Codabar's letters
+
+inner : (cs : List ℕ) (z : ℕ) → atEnd false (cs ++ z ∷ []) ≡ false
+inner [] z = refl
+inner (c ∷ cs) z = refl
+
+ends : (cs : List ℕ) (z : ℕ) → allAllowed 3 false (cs ++ z ∷ []) ≡ (allIn 0 16 cs && allIn 16 20 (z ∷ []))
+ends [] z = refl
+ends (c ∷ cs) z = rw (inner cs z, ends cs z, le-leb 0 c (omega arith)) (sym (and-assoc (ltb c 16) (allIn 0 16 cs) (allIn 16 20 (z ∷ []))))
+
+start : (cs : List ℕ) → atEnd true cs ≡ true
+start [] = refl
+start (c ∷ cs) = refl
+
+pub lettered-at : (codes : List ℕ) (n : ℕ) → 2 ≤ n → n ≤ length codes
+    → allAllowed 3 true (take n codes)
+    ≡ (allIn 16 20 (take (1 - 0) (drop 0 codes)) && (allIn 0 16 (take (n - 1 - 1) (drop 1 codes)) && allIn 16 20 (take (n - (n - 1)) (drop (n - 1) codes))))
+lettered-at codes zero h l = absurd (omega arith)
+lettered-at codes (suc zero) h l = absurd (omega arith)
+lettered-at [] (suc (suc m)) h l = absurd (omega arith)
+lettered-at (c ∷ cs) (suc (suc m)) h l =
+    let a : suc (suc m) - 1 ≡ suc m = omega arith in
+    let b : suc m - 1 ≡ m = omega arith in
+    let d : suc (suc m) - suc m ≡ 1 = omega arith in
+    rw (a, b, d, start (take (suc m) cs), take-suc cs m 0 (omega arith), ends, drop-cons cs m 0 (omega arith), and-true (leb 16 c && ltb c 20)) refl
+
+-- ---- a row in the first n places
+
+pub ready-by : (s : ℕ) (codes : List ℕ) (n : ℕ) → n ≤ length codes → ready s (take n codes) ≡ (counted s n && allAllowed s true (take n codes))
+unfolding ready
+ready-by s codes n h = rw (length-take-le n codes h)
+
+pub ready-rest : (s : ℕ) (codes : List ℕ) (n : ℕ) (r : Bool) → n ≤ length codes → r ≡ counted s n → not r ≡ false
+    → allAllowed s true (take n codes) ≡ ready s (take n codes)
+ready-rest s codes n r h e f = sym (past-first _ _ _ _ (ready-by s codes n h) e f)
+
+-- outside Codabar the whole row is asked for by one call
+pub in-set : (s : ℕ) (codes : List ℕ) (n k : ℕ) (t : Bool) → (s ≡ 3 → ⊥) → k ≡ size (symbologyOf s .alphabet) → t ≡ allIn 0 k (take (n - 0) (drop 0 codes))
+    → t ≡ allAllowed s true (take n codes)
+in-set s codes n k t h e q =
+    let z : n - 0 ≡ n = omega arith in
+    (rw (z, e) at q) ∙ sym (allowed-in s true (take n codes) (ne-eqb s 3 h))
+
+-- ---- Codabar's modules
+
+abbrev pub Sum : List ℕ → ℕ → ℕ → ℕ → Type 0
+Sum codes n sum i = (sum ≤ 14 * i) × (ofCodabar (take n codes) ≡ sum + ofCodabar (take (n - i) (drop i codes)))
+
+pub class-between : (b : Bool) → (12 ≤ pick b 12 14) × (pick b 12 14 ≤ 14)
+class-between true = (omega arith, omega arith)
+class-between false = (omega arith, omega arith)
+
+pub sum-start : (codes : List ℕ) (n : ℕ) → Sum codes n 0 0
+sum-start codes n = let e : n - 0 ≡ n = omega arith in (omega arith, rw (e, zero-add))
+
+pub sum-more : (codes : List ℕ) (n sum i r : ℕ) → i < n → n ≤ length codes → r ≡ pick (ltb (getD codes i 0) 12) 12 14 → Sum codes n sum i → Sum codes n (sum + r) (i + 1)
+sum-more codes n sum i r h k e s =
+    let q : ofCodabar (take n codes) ≡ sum + (pick (ltb (getD codes i 0) 12) 12 14 + ofCodabar (take (n - (i + 1)) (drop (i + 1) codes)))
+    = rw (left-cons codes i n h k) at (s .1) in
+    (omega (arith, class-between (ltb (getD codes i 0) 12) .1), omega arith)
+
+pub sum-end : (codes : List ℕ) (n sum i : ℕ) → n ≤ i → Sum codes n sum i → sum ≡ ofCodabar (take n codes)
+sum-end codes n sum i h s =
+    let e : n - i ≡ 0 = omega arith in
+    let q : ofCodabar (take n codes) ≡ sum + 0 = rw e at (s .1) in
+    omega arith
+
+some : (r : List ℕ) → 0 < length r → 0 < ofCodabar r
+some [] h = absurd (omega arith)
+some (c ∷ cs) h = omega (arith, class-between (ltb c 12) .0)
+
+pub codabar-some : (codes : List ℕ) (n : ℕ) → n ≤ length codes → ready 3 (take n codes) ≡ true → 0 < ofCodabar (take n codes)
+codabar-some codes n h e =
+    some (take n codes) (omega (arith, length-take-le n codes h, counted-codabar n (count 3 codes n h e) .0))

@@ -1,0 +1,120 @@
+-- `draw_row`: the tests in their order, the strip in the room, and its first elements copied.
+-- Assumes nothing.
+use mathlib.Core.Path.{_≡_}
+use mathlib.Core.Bool.{true}
+use Prim.Native.Nat.{_≤_}
+use native.Mathlib.Omega.{arith}
+use lib.ListN.{length, take}
+use borrow.Author.Needs.{needs}
+use Rattle.units.specs.Totals.{elementsOf}
+use Rattle.units.specs.Laid.{ready}
+use Rattle.units.proofs.Drawn.{too-many, not-ready, is-ready, is-counted, is-few, too-short, cut-long, laid}
+use Rattle.units.proofs.draw_row.Statement.{statement}
+use Rattle.units.proofs.draw_row.Tie as tie
+
+returns : tie.Need-returns
+returns c = too-many (c .before .before .args .symbology) (c .before .before .args .row) (c .before .before .args .out .now) (c .if1 .taken)
+
+returns-2 : tie.Need-returns-2
+returns-2 c =
+    let a = c .before .before .before .before .before .args in
+    not-ready (a .symbology) (a .row) (a .out .now) (c .before .before .before .if1 .left) (search needs) (c .before .is-ready .result) (c .before .is-ready .ensures) (c .if2 .taken)
+
+elements-of-requires : tie.Need-elements-of-requires
+elements-of-requires c κs =
+    let a = c .before .before .before .before .before .args in
+    let h = c .before .before .before .if1 .left in
+    let places : length (a .row .codes) ≡ 34 = search needs in
+    (h, is-counted (a .symbology) (a .row) (a .out .now) h places (is-ready (a .symbology) (a .row) (a .out .now) h places (c .before .is-ready .result) (c .before .is-ready .ensures) (c .if2 .left)))
+
+returns-3 : tie.Need-returns-3
+returns-3 c =
+    let b = c .before .before .before in
+    let a = b .before .before .before .before .args in
+    let h = b .before .before .if1 .left in
+    let places : length (a .row .codes) ≡ 34 = search needs in
+    too-short (a .symbology) (a .row) (a .out .now) h places
+    (is-ready (a .symbology) (a .row) (a .out .now) h places (b .is-ready .result) (b .is-ready .ensures) (c .before .before .if2 .left))
+    (c .before .elements-of .result) (c .before .elements-of .ensures) (c .if3 .taken)
+
+build-requires : tie.Need-build-requires
+build-requires c κs =
+    let b = c .before .before .before in
+    let a = b .before .before .before .before .args in
+    let h = b .before .before .if1 .left in
+    (h, is-ready (a .symbology) (a .row) (a .out .now) h (search needs) (b .is-ready .result) (b .is-ready .ensures) (c .before .before .if2 .left))
+
+array-share-prefix-room : tie.Need-array-share-prefix-room
+array-share-prefix-room c =
+    let b = c .before .before .before .before in
+    let a = b .before .before .before .before .args in
+    let h = b .before .before .if1 .left in
+    let places : length (a .row .codes) ≡ 34 = search needs in
+    let room : length (c .build .result) ≡ 339 = search needs in
+    omega (
+      arith,
+      c .before .before .elements-of .ensures,
+      is-few (a .symbology) (a .row) (a .out .now) h places
+          (is-ready (a .symbology) (a .row) (a .out .now) h places (b .is-ready .result) (b .is-ready .ensures) (c .before .before .before .if2 .left)),
+    )
+
+slice-aggregate-copy : tie.Need-slice-aggregate-copy
+slice-aggregate-copy c =
+    let b = c .before .before .before .before .before in
+    let a = b .before .before .before .before .args in
+    let h = b .before .before .if1 .left in
+    let places : length (a .row .codes) ≡ 34 = search needs in
+    cut-long (a .symbology) (a .row) (a .out .now) h places
+    (is-ready (a .symbology) (a .row) (a .out .now) h places (b .is-ready .result) (b .is-ready .ensures) (c .before .before .before .before .if2 .left))
+    (c .before .before .before .elements-of .result) (c .before .before .before .elements-of .ensures) (c .before .build .result) (search needs)
+
+copy-requires : tie.Need-copy-requires
+copy-requires c κs =
+    let b = c .before .before .before .before .before .before in
+    let a = b .before .before .before .before .args in
+    let h = b .before .before .if1 .left in
+    let places : length (a .row .codes) ≡ 34 = search needs in
+    omega (
+      arith,
+      c .before .before .before .if3 .left,
+      cut-long (a .symbology) (a .row) (a .out .now) h places
+          (is-ready (a .symbology) (a .row) (a .out .now) h places (b .is-ready .result) (b .is-ready .ensures) (c .before .before .before .before .before .if2 .left))
+          (c .before .before .before .before .elements-of .result) (c .before .before .before .before .elements-of .ensures) (c .before .before .build .result) (search needs),
+    )
+
+modules-of-requires : tie.Need-modules-of-requires
+modules-of-requires c κs =
+    let b = c .before .before .before .before .before .before .before .before .before in
+    let a = b .before .before .before .before .args in
+    let h = b .before .before .if1 .left in
+    (h, is-ready (a .symbology) (a .row) (a .out .now) h (search needs) (b .is-ready .result) (b .is-ready .ensures) (c .before .before .before .before .before .before .before .before .if2 .left))
+
+returns-4 : tie.Need-returns-4
+returns-4 c =
+    let b = c .before .before .before .before .before .before .before .before .before .before in
+    let a = b .before .before .before .before .args in
+    let h = b .before .before .if1 .left in
+    let n = c .before .before .before .before .before .before .before .before .elements-of in
+    let room = c .before .before .before .before .before .before .build in
+    let places : length (a .row .codes) ≡ 34 = search needs in
+    laid (a .symbology) (a .row) (a .out .now) h places
+    (is-ready (a .symbology) (a .row) (a .out .now) h places (b .is-ready .result) (b .is-ready .ensures) (c .before .before .before .before .before .before .before .before .before .if2 .left))
+    (n .result) (n .ensures) (room .result) (c .before .before .before .copy .last .1 .0) (c .modules-of .result) (c .before .before .before .before .before .before .before .if3 .left)
+    (c .modules-of .ensures) (search needs) (room .ensures) (c .before .before .before .copy .ensures .1)
+
+pub draw-row-spec : {M : Type 1} → statement M
+draw-row-spec =
+    tie.close
+    (tie.spec
+    returns
+    (λ c κs. search needs)
+    returns-2
+    elements-of-requires
+    returns-3
+    build-requires
+    array-share-prefix-room
+    slice-aggregate-copy
+    copy-requires
+    modules-of-requires
+    (λ c. search needs)
+    returns-4)

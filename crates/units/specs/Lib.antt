@@ -1,0 +1,4 @@
+pub mod Plans
+pub mod Totals
+pub mod Room
+pub mod Laid

@@ -1,0 +1,153 @@
+// The strip of each symbology, built whole in the working room (document 01, "Two-width strips", "EAN and UPC strips").
+use super::room;
+use super::widths;
+use words::ElementPlace;
+ghost use mathlib.Core.Path.{_≡_};
+ghost use mathlib.Core.Bool.{true};
+ghost use mathlib.Core.List.{_++_};
+ghost use Prim.Native.Nat.{_+_, _*_, _<_, _≤_};
+ghost use lib.ListN.{length, take, drop};
+ghost use Rattle.laws.proofs.Spelling.{Below};
+ghost use Rattle.units.specs.Plans.{sided, stripOf};
+ghost use Rattle.units.specs.Totals.{elementsOf};
+ghost use Rattle.units.specs.Laid.{ready};
+ghost use Rattle.units.specs.Room.{sideAt, leftIn, rightIn, textEan};
+
+// A star, the characters, a star, with a narrow space between each two.
+fn code39(room: &mut [u8; 339], codes: [u8; 34], n: usize)
+    requires { ⌜ (length (now room) ≡ 339) × ((n ≤ 34) × (ready 1 (take n codes) ≡ true)) ⌝ }
+    ensures { λ _. ⌜ length (now (room .exit)) ≡ 339 ⌝ }
+    ensures { λ _. ⌜ take (elementsOf 1 n) (now (room .exit)) ≡ stripOf 1 (take n codes) ⌝ }
+{
+    let text = widths::code39();
+    let a = room::put(room, ElementPlace(0), &text, 430, 10);
+    let b = room::put_units(room, a, &text, 0, 10, codes, 0, n);
+    room::put(room, b, &text, 430, 9);
+}
+
+// The characters, which start and stop themselves, with a narrow space between each two.
+fn codabar(room: &mut [u8; 339], codes: [u8; 34], n: usize)
+    requires { ⌜ (length (now room) ≡ 339) × ((n ≤ 34) × (ready 3 (take n codes) ≡ true)) ⌝ }
+    ensures { λ _. ⌜ length (now (room .exit)) ≡ 339 ⌝ }
+    ensures { λ _. ⌜ take (elementsOf 3 n) (now (room .exit)) ≡ stripOf 3 (take n codes) ⌝ }
+{
+    let text = widths::codabar();
+    let last = codes[n - 1] as usize;
+    let a = room::put_units(room, ElementPlace(0), &text, 0, 8, codes, 0, n - 1);
+    room::put(room, a, &text, 8 * last, 7);
+}
+
+// The start, the digits, the stop, with a narrow space between each two.
+fn industrial(room: &mut [u8; 339], codes: [u8; 34], n: usize)
+    requires { ⌜ (length (now room) ≡ 339) × ((n ≤ 34) × (ready 4 (take n codes) ≡ true)) ⌝ }
+    ensures { λ _. ⌜ length (now (room .exit)) ≡ 339 ⌝ }
+    ensures { λ _. ⌜ take (elementsOf 4 n) (now (room .exit)) ≡ stripOf 4 (take n codes) ⌝ }
+{
+    let text = widths::industrial();
+    let a = room::put(room, ElementPlace(0), &text, 100, 6);
+    let b = room::put_units(room, a, &text, 0, 10, codes, 0, n);
+    room::put(room, b, &text, 106, 5);
+}
+
+// The start, the pairs, the stop.
+fn interleaved(room: &mut [u8; 339], codes: [u8; 34], n: usize)
+    requires { ⌜ (length (now room) ≡ 339) × ((n ≤ 34) × (ready 5 (take n codes) ≡ true)) ⌝ }
+    ensures { λ _. ⌜ length (now (room .exit)) ≡ 339 ⌝ }
+    ensures { λ _. ⌜ take (elementsOf 5 n) (now (room .exit)) ≡ stripOf 5 (take n codes) ⌝ }
+{
+    let text = widths::interleaved();
+    let a = room::put(room, ElementPlace(0), &text, 50, 4);
+    let b = room::put_pairs(room, a, &text, codes, n / 2);
+    room::put(room, b, &text, 54, 3);
+}
+
+// The start, the digits, the stop, with a narrow space between each two.
+fn matrix(room: &mut [u8; 339], codes: [u8; 34], n: usize)
+    requires { ⌜ (length (now room) ≡ 339) × ((n ≤ 34) × (ready 6 (take n codes) ≡ true)) ⌝ }
+    ensures { λ _. ⌜ length (now (room .exit)) ≡ 339 ⌝ }
+    ensures { λ _. ⌜ take (elementsOf 6 n) (now (room .exit)) ≡ stripOf 6 (take n codes) ⌝ }
+{
+    let text = widths::matrix();
+    let a = room::put(room, ElementPlace(0), &text, 60, 6);
+    let b = room::put_units(room, a, &text, 0, 6, codes, 0, n);
+    room::put(room, b, &text, 60, 5);
+}
+
+// The set that EAN-13's unit i comes from, by the parities: 0 is odd, 1 is even; the right units have one set.
+fn side(parities: u16, i: usize) -> u8
+    ensures { λ r. ⌜ r ≡ sideAt parities i ⌝ }
+{
+    if i < 6 {
+        ((parities >> (5 - i)) % 2) as u8
+    } else {
+        0
+    }
+}
+
+// The twelve units that EAN-13 draws: its first digit stands in the sets of the six left ones.
+fn sides_of(codes: [u8; 34]) -> [u8; 34]
+    requires { ⌜ Below 10 (take 13 codes) ⌝ }
+    ensures { λ r. ⌜ take 12 r ≡ sided (take 13 codes) ⌝ }
+{
+    let parities = tables::ean::parities_of(codes[0]);
+    let mut sides = [0; 34];
+    let mut i = 0;
+    while i < 12 {
+        sides[i] = 10 * side(parities, i) + codes[i + 1];
+        i += 1;
+    }
+    sides
+}
+
+// A guard, half the units, the centre.
+fn left(room: &mut [u8; 339], text: &[u8], codes: [u8; 34], half: usize) -> ElementPlace
+    requires { ⌜ (length (now room) ≡ 339) × ((length (now text) ≡ 128) × ((half ≤ 6) × Below 20 (take half codes))) ⌝ }
+    ensures { λ r. ⌜ r .0 ≡ 4 * half + 8 ⌝ }
+    ensures { λ _. ⌜ length (now (room .exit)) ≡ 339 ⌝ }
+    ensures { λ _. ⌜ take (4 * half + 8) (now (room .exit)) ≡ leftIn (now (text .entry)) (take half codes) ⌝ }
+{
+    let a = room::put(room, ElementPlace(0), text, 120, 3);
+    let b = room::put_units(room, a, text, 0, 4, codes, 0, half);
+    room::put(room, b, text, 123, 5)
+}
+
+// The other half from the right set, a guard.
+fn right(room: &mut [u8; 339], at: ElementPlace, text: &[u8], codes: [u8; 34], half: usize)
+    requires { ⌜ (length (now room) ≡ 339) × ((length (now text) ≡ 128) × ((half ≤ 6) × Below 10 (take half (drop half codes)))) ⌝ }
+    requires { ⌜ at .0 ≤ 32 ⌝ }
+    ensures { λ _. ⌜ length (now (room .exit)) ≡ 339 ⌝ }
+    ensures { λ _. ⌜ take (at .0 + (4 * half + 3)) (now (room .exit)) ≡ take (at .0) (now (room .entry)) ++ rightIn (now (text .entry)) (take half (drop half codes)) ⌝ }
+{
+    let a = room::put_units(room, at, text, 80, 4, codes, half, half);
+    room::put(room, a, text, 120, 3);
+}
+
+// The units in two halves, between guards and on both sides of the centre.
+fn halves(room: &mut [u8; 339], codes: [u8; 34], half: usize)
+    requires { ⌜ (length (now room) ≡ 339) × ((half ≤ 6) × ((Below 20 (take half codes)) × (Below 10 (take half (drop half codes))))) ⌝ }
+    ensures { λ _. ⌜ length (now (room .exit)) ≡ 339 ⌝ }
+    ensures { λ _. ⌜ take (8 * half + 11) (now (room .exit)) ≡ leftIn textEan (take half codes) ++ rightIn textEan (take half (drop half codes)) ⌝ }
+{
+    let text = widths::ean();
+    let a = left(room, &text, codes, half);
+    right(room, a, &text, codes, half);
+}
+
+// The strip of n characters, in a room of its own.
+pub fn build(symbology: u8, codes: [u8; 34], n: usize) -> [u8; 339]
+    requires { ⌜ (n ≤ 34) × (ready symbology (take n codes) ≡ true) ⌝ }
+    ensures { λ r. ⌜ take (elementsOf symbology n) r ≡ stripOf symbology (take n codes) ⌝ }
+{
+    let mut room = [0; 339];
+    match symbology {
+        1 | 2 => code39(&mut room, codes, n),
+        3 => codabar(&mut room, codes, n),
+        4 => industrial(&mut room, codes, n),
+        5 => interleaved(&mut room, codes, n),
+        6 => matrix(&mut room, codes, n),
+        7 => halves(&mut room, sides_of(codes), 6),
+        8 => halves(&mut room, codes, 4),
+        _ => halves(&mut room, codes, 6),
+    }
+    room
+}
