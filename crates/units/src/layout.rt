@@ -133,21 +133,20 @@ fn halves(room: &mut [u8; 339], codes: [u8; 34], half: usize)
     right(room, a, &text, codes, half);
 }
 
-// The strip of n characters, in a room of its own.
-pub fn build(symbology: u8, codes: [u8; 34], n: usize) -> [u8; 339]
-    requires { ⌜ (n ≤ 34) × (ready symbology (take n codes) ≡ true) ⌝ }
-    ensures { λ r. ⌜ take (elementsOf symbology n) r ≡ stripOf symbology (take n codes) ⌝ }
+// The strip of n characters.
+pub fn build(room: &mut [u8; 339], symbology: u8, codes: [u8; 34], n: usize)
+    requires { ⌜ (length (now room) ≡ 339) × ((n ≤ 34) × (ready symbology (take n codes) ≡ true)) ⌝ }
+    ensures { λ _. ⌜ length (now (room .exit)) ≡ 339 ⌝ }
+    ensures { λ _. ⌜ take (elementsOf symbology n) (now (room .exit)) ≡ stripOf symbology (take n codes) ⌝ }
 {
-    let mut room = [0; 339];
     match symbology {
-        1 | 2 => code39(&mut room, codes, n),
-        3 => codabar(&mut room, codes, n),
-        4 => industrial(&mut room, codes, n),
-        5 => interleaved(&mut room, codes, n),
-        6 => matrix(&mut room, codes, n),
-        7 => halves(&mut room, sides_of(codes), 6),
-        8 => halves(&mut room, codes, 4),
-        _ => halves(&mut room, codes, 6),
+        1 | 2 => code39(room, codes, n),
+        3 => codabar(room, codes, n),
+        4 => industrial(room, codes, n),
+        5 => interleaved(room, codes, n),
+        6 => matrix(room, codes, n),
+        7 => halves(room, sides_of(codes), 6),
+        8 => halves(room, codes, 4),
+        _ => halves(room, codes, 6),
     }
-    room
 }

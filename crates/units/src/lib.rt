@@ -44,7 +44,8 @@ pub fn draw_row(symbology: u8, row: Row, out: &mut [u8]) -> Laid
     if out.len() < count {
         return Laid::Short(Elements(count));
     }
-    let room = layout::build(symbology, codes, n);
+    let mut room = [0; 339];
+    layout::build(&mut room, symbology, codes, n);
     bytes::copy(&room[..count], out);
     Laid::Strip(
         Elements(count),

@@ -1,6 +1,6 @@
 -- `draw_row`: the tests in their order, the strip in the room, and its first elements copied.
 -- Assumes nothing.
-use mathlib.Core.Path.{_≡_}
+use mathlib.Core.Path.{_≡_, refl}
 use mathlib.Core.Bool.{true}
 use Prim.Native.Nat.{_≤_}
 use native.Mathlib.Omega.{arith}
@@ -39,68 +39,70 @@ returns-3 c =
 
 build-requires : tie.Need-build-requires
 build-requires c κs =
-    let b = c .before .before .before in
-    let a = b .before .before .before .before .args in
-    let h = b .before .before .if1 .left in
-    (h, is-ready (a .symbology) (a .row) (a .out .now) h (search needs) (b .is-ready .result) (b .is-ready .ensures) (c .before .before .if2 .left))
-
-array-share-prefix-room : tie.Need-array-share-prefix-room
-array-share-prefix-room c =
     let b = c .before .before .before .before in
     let a = b .before .before .before .before .args in
     let h = b .before .before .if1 .left in
-    let places : length (a .row .codes) ≡ 34 = search needs in
-    let room : length (c .build .result) ≡ 339 = search needs in
-    omega (
-      arith,
-      c .before .before .elements-of .ensures,
-      is-few (a .symbology) (a .row) (a .out .now) h places
-          (is-ready (a .symbology) (a .row) (a .out .now) h places (b .is-ready .result) (b .is-ready .ensures) (c .before .before .before .if2 .left)),
-    )
+    (refl, (h, is-ready (a .symbology) (a .row) (a .out .now) h (search needs) (b .is-ready .result) (b .is-ready .ensures) (c .before .before .before .if2 .left)))
 
-slice-aggregate-copy : tie.Need-slice-aggregate-copy
-slice-aggregate-copy c =
+array-share-prefix-room : tie.Need-array-share-prefix-room
+array-share-prefix-room c =
     let b = c .before .before .before .before .before in
     let a = b .before .before .before .before .args in
     let h = b .before .before .if1 .left in
     let places : length (a .row .codes) ≡ 34 = search needs in
-    cut-long (a .symbology) (a .row) (a .out .now) h places
-    (is-ready (a .symbology) (a .row) (a .out .now) h places (b .is-ready .result) (b .is-ready .ensures) (c .before .before .before .before .if2 .left))
-    (c .before .before .before .elements-of .result) (c .before .before .before .elements-of .ensures) (c .before .build .result) (search needs)
+    omega (
+      arith,
+      c .build .ensures .0,
+      c .before .before .before .elements-of .ensures,
+      is-few (a .symbology) (a .row) (a .out .now) h places
+          (is-ready (a .symbology) (a .row) (a .out .now) h places (b .is-ready .result) (b .is-ready .ensures) (c .before .before .before .before .if2 .left)),
+    )
 
-copy-requires : tie.Need-copy-requires
-copy-requires c κs =
+slice-aggregate-copy : tie.Need-slice-aggregate-copy
+slice-aggregate-copy c =
     let b = c .before .before .before .before .before .before in
     let a = b .before .before .before .before .args in
     let h = b .before .before .if1 .left in
+    let n = c .before .before .before .before .elements-of in
+    let places : length (a .row .codes) ≡ 34 = search needs in
+    cut-long (a .symbology) (a .row) (a .out .now) h places
+    (is-ready (a .symbology) (a .row) (a .out .now) h places (b .is-ready .result) (b .is-ready .ensures) (c .before .before .before .before .before .if2 .left))
+    (n .result) (n .ensures) (c .before .build .last .0) (c .before .build .ensures .0)
+
+copy-requires : tie.Need-copy-requires
+copy-requires c κs =
+    let b = c .before .before .before .before .before .before .before in
+    let a = b .before .before .before .before .args in
+    let h = b .before .before .if1 .left in
+    let n = c .before .before .before .before .before .elements-of in
     let places : length (a .row .codes) ≡ 34 = search needs in
     omega (
       arith,
-      c .before .before .before .if3 .left,
+      c .before .before .before .before .if3 .left,
       cut-long (a .symbology) (a .row) (a .out .now) h places
-          (is-ready (a .symbology) (a .row) (a .out .now) h places (b .is-ready .result) (b .is-ready .ensures) (c .before .before .before .before .before .if2 .left))
-          (c .before .before .before .before .elements-of .result) (c .before .before .before .before .elements-of .ensures) (c .before .before .build .result) (search needs),
+          (is-ready (a .symbology) (a .row) (a .out .now) h places (b .is-ready .result) (b .is-ready .ensures) (c .before .before .before .before .before .before .if2 .left))
+          (n .result) (n .ensures) (c .before .before .build .last .0) (c .before .before .build .ensures .0),
     )
 
 modules-of-requires : tie.Need-modules-of-requires
 modules-of-requires c κs =
-    let b = c .before .before .before .before .before .before .before .before .before in
-    let a = b .before .before .before .before .args in
-    let h = b .before .before .if1 .left in
-    (h, is-ready (a .symbology) (a .row) (a .out .now) h (search needs) (b .is-ready .result) (b .is-ready .ensures) (c .before .before .before .before .before .before .before .before .if2 .left))
-
-returns-4 : tie.Need-returns-4
-returns-4 c =
     let b = c .before .before .before .before .before .before .before .before .before .before in
     let a = b .before .before .before .before .args in
     let h = b .before .before .if1 .left in
-    let n = c .before .before .before .before .before .before .before .before .elements-of in
+    (h, is-ready (a .symbology) (a .row) (a .out .now) h (search needs) (b .is-ready .result) (b .is-ready .ensures) (c .before .before .before .before .before .before .before .before .before .if2 .left))
+
+returns-4 : tie.Need-returns-4
+returns-4 c =
+    let b = c .before .before .before .before .before .before .before .before .before .before .before in
+    let a = b .before .before .before .before .args in
+    let h = b .before .before .if1 .left in
+    let n = c .before .before .before .before .before .before .before .before .before .elements-of in
     let room = c .before .before .before .before .before .before .build in
     let places : length (a .row .codes) ≡ 34 = search needs in
     laid (a .symbology) (a .row) (a .out .now) h places
-    (is-ready (a .symbology) (a .row) (a .out .now) h places (b .is-ready .result) (b .is-ready .ensures) (c .before .before .before .before .before .before .before .before .before .if2 .left))
-    (n .result) (n .ensures) (room .result) (c .before .before .before .copy .last .1 .0) (c .modules-of .result) (c .before .before .before .before .before .before .before .if3 .left)
-    (c .modules-of .ensures) (search needs) (room .ensures) (c .before .before .before .copy .ensures .1)
+    (is-ready (a .symbology) (a .row) (a .out .now) h places (b .is-ready .result) (b .is-ready .ensures) (c .before .before .before .before .before .before .before .before .before .before .if2 .left))
+    (n .result) (n .ensures) (room .last .0) (c .before .before .before .copy .last .1 .0) (c .modules-of .result) (c .before .before .before .before .before .before .before .before .if3 .left)
+    (c .modules-of .ensures) (room .ensures .0) (room .ensures .1) (c .before .before .before .copy .ensures .1)
 
 pub draw-row-spec : {M : Type 1} → statement M
 draw-row-spec =

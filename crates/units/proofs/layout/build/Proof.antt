@@ -49,24 +49,24 @@ halves-requires c κs =
     let long : length (c .sides-of .result) ≡ 34 = search needs in
     let h : Halves 7 (a .args .n) 6 (take (a .args .n) (a .args .codes)) (c .sides-of .result)
     = halves13 (a .args .codes) (c .sides-of .result) (a .args .n) (search needs) (omega arith)
-    (ready-as (a .args .symbology) 7 (take (a .args .n) (a .args .codes)) (c .before .before .match .keys5) (a .pre .1)) (c .sides-of .ensures) in
-    (refl, (lit≤ tt, (h .left, h .right)))
+    (ready-as (a .args .symbology) 7 (take (a .args .n) (a .args .codes)) (c .before .before .match .keys5) (a .pre .1 .1)) (c .sides-of .ensures) in
+    (a .pre .0, (lit≤ tt, (h .left, h .right)))
 
 halves-requires-2 : tie.Need-halves-requires-2
 halves-requires-2 c κs =
     let a = c .before .before in
     let h : Halves 8 (a .args .n) 4 (take (a .args .n) (a .args .codes)) (a .args .codes)
     = halves8 (a .args .codes) (a .args .n) (search needs)
-    (ready-as (a .args .symbology) 8 (take (a .args .n) (a .args .codes)) (c .before .match .keys6) (a .pre .1)) in
-    (refl, (lit≤ tt, (h .left, h .right)))
+    (ready-as (a .args .symbology) 8 (take (a .args .n) (a .args .codes)) (c .before .match .keys6) (a .pre .1 .1)) in
+    (a .pre .0, (lit≤ tt, (h .left, h .right)))
 
 code39-requires : tie.Need-code39-requires
 code39-requires c κs =
     let a = c .before .before .before .before in (
-      refl,
+      a .pre .0,
       (
-        a .pre .0,
-        either39 (a .args .n) (take (a .args .n) (a .args .codes)) (a .args .symbology) (c .before .before .if1 .left) (c .before .if2 .taken) .ready39 (a .pre .1),
+        a .pre .1 .0,
+        either39 (a .args .n) (take (a .args .n) (a .args .codes)) (a .args .symbology) (c .before .before .if1 .left) (c .before .if2 .taken) .ready39 (a .pre .1 .1),
       ),
     )
 
@@ -74,60 +74,68 @@ halves-requires-3 : tie.Need-halves-requires-3
 halves-requires-3 c κs =
     let a = c .before .before .before in
     let nine : a .args .symbology ≡ 9
-    = either (λ h. none (a .args .symbology) (a .args .n) (a .args .codes) (search needs) (a .pre .1) (h .taken))
-    (λ h. nine (a .args .symbology) (a .args .n) (a .args .codes) (search needs) (a .pre .1) (c .before .before .match .rest) (h .1 .left)) (c .before .if1 .came) in
+    = either (λ h. none (a .args .symbology) (a .args .n) (a .args .codes) (search needs) (a .pre .1 .1) (h .taken))
+    (λ h. nine (a .args .symbology) (a .args .n) (a .args .codes) (search needs) (a .pre .1 .1) (c .before .before .match .rest) (h .1 .left)) (c .before .if1 .came) in
     let h : Halves 9 (a .args .n) 6 (take (a .args .n) (a .args .codes)) (a .args .codes)
-    = halves12 (a .args .codes) (a .args .n) (search needs) (ready-as (a .args .symbology) 9 (take (a .args .n) (a .args .codes)) nine (a .pre .1)) in
-    (refl, (lit≤ tt, (h .left, h .right)))
+    = halves12 (a .args .codes) (a .args .n) (search needs) (ready-as (a .args .symbology) 9 (take (a .args .n) (a .args .codes)) nine (a .pre .1 .1)) in
+    (a .pre .0, (lit≤ tt, (h .left, h .right)))
 
 returns-5 : tie.Need-returns-5
 returns-5 c =
     let a = c .before .before .before .before in
-    let long : length (c .before .sides-of .result) ≡ 34 = search needs in
-    twice (a .args .symbology) 7 (a .args .n) 6 (take (a .args .n) (a .args .codes)) (c .before .sides-of .result) (c .halves .last .0) (c .before .before .before .match .keys5)
-    (halves13 (a .args .codes) (c .before .sides-of .result) (a .args .n) (search needs) (omega arith)
-    (ready-as (a .args .symbology) 7 (take (a .args .n) (a .args .codes)) (c .before .before .before .match .keys5) (a .pre .1)) (c .before .sides-of .ensures)) (c .halves .ensures .1)
+    let long : length (c .before .sides-of .result) ≡ 34 = search needs in (
+      c .halves .ensures .0,
+      twice (a .args .symbology) 7 (a .args .n) 6 (take (a .args .n) (a .args .codes)) (c .before .sides-of .result) (c .halves .last .0) (c .before .before .before .match .keys5)
+          (halves13 (a .args .codes) (c .before .sides-of .result) (a .args .n) (search needs) (omega arith)
+          (ready-as (a .args .symbology) 7 (take (a .args .n) (a .args .codes)) (c .before .before .before .match .keys5) (a .pre .1 .1)) (c .before .sides-of .ensures)) (c .halves .ensures .1),
+    )
 
 returns-6 : tie.Need-returns-6
 returns-6 c =
-    let a = c .before .before .before in
-    twice (a .args .symbology) 8 (a .args .n) 4 (take (a .args .n) (a .args .codes)) (a .args .codes) (c .halves2 .last .0) (c .before .before .match .keys6)
-    (halves8 (a .args .codes) (a .args .n) (search needs)
-    (ready-as (a .args .symbology) 8 (take (a .args .n) (a .args .codes)) (c .before .before .match .keys6) (a .pre .1))) (c .halves2 .ensures .1)
+    let a = c .before .before .before in (
+      c .halves2 .ensures .0,
+      twice (a .args .symbology) 8 (a .args .n) 4 (take (a .args .n) (a .args .codes)) (a .args .codes) (c .halves2 .last .0) (c .before .before .match .keys6)
+          (halves8 (a .args .codes) (a .args .n) (search needs)
+          (ready-as (a .args .symbology) 8 (take (a .args .n) (a .args .codes)) (c .before .before .match .keys6) (a .pre .1 .1))) (c .halves2 .ensures .1),
+    )
 
 returns-7 : tie.Need-returns-7
 returns-7 c =
     let a = c .before .before .before .before .before in
     let e : Either39 (a .args .symbology) (a .args .n) (take (a .args .n) (a .args .codes))
-    = either39 (a .args .n) (take (a .args .n) (a .args .codes)) (a .args .symbology) (c .before .before .before .if1 .left) (c .before .before .if2 .taken) in
-    ap (λ (m : ℕ). take m (c .code39 .last .0)) (e .elements39) ∙ c .code39 .ensures .1 ∙ e .strip39
+    = either39 (a .args .n) (take (a .args .n) (a .args .codes)) (a .args .symbology) (c .before .before .before .if1 .left) (c .before .before .if2 .taken) in (
+      c .code39 .ensures .0,
+      ap (λ (m : ℕ). take m (c .code39 .last .0)) (e .elements39) ∙ c .code39 .ensures .1 ∙ e .strip39,
+    )
 
 returns-8 : tie.Need-returns-8
 returns-8 c =
     let a = c .before .before .before .before in
     let nine : a .args .symbology ≡ 9
-    = either (λ h. none (a .args .symbology) (a .args .n) (a .args .codes) (search needs) (a .pre .1) (h .taken))
-    (λ h. nine (a .args .symbology) (a .args .n) (a .args .codes) (search needs) (a .pre .1) (c .before .before .before .match .rest) (h .1 .left)) (c .before .before .if1 .came) in
-    twice (a .args .symbology) 9 (a .args .n) 6 (take (a .args .n) (a .args .codes)) (a .args .codes) (c .halves3 .last .0) nine
-    (halves12 (a .args .codes) (a .args .n) (search needs) (ready-as (a .args .symbology) 9 (take (a .args .n) (a .args .codes)) nine (a .pre .1))) (c .halves3 .ensures .1)
+    = either (λ h. none (a .args .symbology) (a .args .n) (a .args .codes) (search needs) (a .pre .1 .1) (h .taken))
+    (λ h. nine (a .args .symbology) (a .args .n) (a .args .codes) (search needs) (a .pre .1 .1) (c .before .before .before .match .rest) (h .1 .left)) (c .before .before .if1 .came) in (
+      c .halves3 .ensures .0,
+      twice (a .args .symbology) 9 (a .args .n) 6 (take (a .args .n) (a .args .codes)) (a .args .codes) (c .halves3 .last .0) nine
+          (halves12 (a .args .codes) (a .args .n) (search needs) (ready-as (a .args .symbology) 9 (take (a .args .n) (a .args .codes)) nine (a .pre .1 .1))) (c .halves3 .ensures .1),
+    )
 
 pub build-spec : {M : Type 1} → statement M
 build-spec =
     tie.close
     (tie.spec
-    (λ c κs. (refl, (c .before .before .pre .0, ready-as _ 3 _ (c .before .match .keys1) (c .before .before .pre .1))))
-    (λ c κs. (refl, (c .before .before .pre .0, ready-as _ 4 _ (c .before .match .keys2) (c .before .before .pre .1))))
-    (λ c κs. (refl, (c .before .before .pre .0, ready-as _ 5 _ (c .before .match .keys3) (c .before .before .pre .1))))
-    (λ c κs. (refl, (c .before .before .pre .0, ready-as _ 6 _ (c .before .match .keys4) (c .before .before .pre .1))))
-    (λ c κs. digits13 (c .before .before .args .codes) (c .before .before .args .n) (search needs) (ready-as _ 7 _ (c .before .match .keys5) (c .before .before .pre .1)))
+    (λ c κs. (c .before .before .pre .0, (c .before .before .pre .1 .0, ready-as _ 3 _ (c .before .match .keys1) (c .before .before .pre .1 .1))))
+    (λ c κs. (c .before .before .pre .0, (c .before .before .pre .1 .0, ready-as _ 4 _ (c .before .match .keys2) (c .before .before .pre .1 .1))))
+    (λ c κs. (c .before .before .pre .0, (c .before .before .pre .1 .0, ready-as _ 5 _ (c .before .match .keys3) (c .before .before .pre .1 .1))))
+    (λ c κs. (c .before .before .pre .0, (c .before .before .pre .1 .0, ready-as _ 6 _ (c .before .match .keys4) (c .before .before .pre .1 .1))))
+    (λ c κs. digits13 (c .before .before .args .codes) (c .before .before .args .n) (search needs) (ready-as _ 7 _ (c .before .match .keys5) (c .before .before .pre .1 .1)))
     halves-requires
     halves-requires-2
     code39-requires
     halves-requires-3
-    (λ c. known-as _ 3 _ _ _ (c .before .before .match .keys1) (c .codabar .ensures .1))
-    (λ c. known-as _ 4 _ _ _ (c .before .before .match .keys2) (c .industrial .ensures .1))
-    (λ c. known-as _ 5 _ _ _ (c .before .before .match .keys3) (c .interleaved .ensures .1))
-    (λ c. known-as _ 6 _ _ _ (c .before .before .match .keys4) (c .matrix .ensures .1))
+    (λ c. (c .codabar .ensures .0, known-as _ 3 _ _ _ (c .before .before .match .keys1) (c .codabar .ensures .1)))
+    (λ c. (c .industrial .ensures .0, known-as _ 4 _ _ _ (c .before .before .match .keys2) (c .industrial .ensures .1)))
+    (λ c. (c .interleaved .ensures .0, known-as _ 5 _ _ _ (c .before .before .match .keys3) (c .interleaved .ensures .1)))
+    (λ c. (c .matrix .ensures .0, known-as _ 6 _ _ _ (c .before .before .match .keys4) (c .matrix .ensures .1)))
     returns-5
     returns-6
     returns-7
