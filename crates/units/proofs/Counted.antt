@@ -2,29 +2,30 @@
 -- fact is a test of 35 numbers.
 --
 --   counted-few       at most 34
+--   Counts, counts1 ..    by symbology number: the counts up to 34, by one computed test each
 --   counted-39 ..     by symbology: from .. to ..; in Interleaved an even number, in EAN and UPC just one
 --   known             only the numbers 1 to 9 count anything
 --   by-number         so a fact of those nine is a fact of every such symbology
 --
 -- Assumes nothing.
-use mathlib.Core.Path.{_≡_, refl}
-use mathlib.Core.Bool.{Bool, true, false, _&&_, _||_}
-use Prim.Native.Nat.{ℕ, _*_, _-_, _/_, _<_, _≤_}
+use mathlib.Core.Path.{_≡_, refl, sym, _∙_}
+use mathlib.Core.Bool.{Bool, true, false, _&&_, _||_, Bool·beq}
+use Prim.Native.Nat.{ℕ, _*_, _-_, _/_, _%_, _<_, _≤_}
 use native.Mathlib.Omega.{arith}
 use native.Mathlib.Decide.{decLt}
 use lib.Dec.{eqb, leb}
 use lib.ListN.{getD, List·getD-eq-default}
 use borrow.Author.Tests.{eqb-true, leb-true}
-use Rattle.laws.specs.Search.{pick}
 use Rattle.laws.proofs.Finite.{both-left, both-right, upto, upto-at, From, from-at}
 use Rattle.rows.specs.Limits.{unknown, offered, holds}
 use Rattle.rows.specs.Checks.{noCheck}
 use Rattle.rows.specs.Symbologies.{Symbology, digits, symbologies, symbologyOf}
 use Rattle.rows.specs.Rows.{added, drawable}
 use Rattle.rows.proofs.Numbers.{room-small}
-use Rattle.rows.proofs.Proper.{Counts, proper}
+use Rattle.rows.proofs.Proper.{Counts as ModeCounts, proper}
 use Rattle.rows.proofs.Undo.{held}
 use Rattle.units.specs.Laid.{counts, counted}
+use Rattle.units.specs.Room.{inSteps}
 
 -- ---- at most 34
 
@@ -37,7 +38,7 @@ counts-few s n m e =
     let y : Symbology = symbologyOf s in
     let o : offered (y .limits) m ≡ true = both-left (offered (y .limits) m) (drawable y m n) e in
     let d : drawable y m n ≡ true = both-right (offered (y .limits) m) (drawable y m n) e in
-    let c : Counts y m = proper s .counts m o in
+    let c : ModeCounts y m = proper s .counts m o in
     let h : n - added m ≤ getD (y .limits .most) m 0 = held (y .limits) m (n - added m) (both-left (holds (y .limits) m (n - added m)) _ d) .1 in
     omega (arith, c .cap, room-small s)
 
@@ -49,60 +50,96 @@ counted-few s n =
 
 -- ---- by symbology
 
-module _ (s : ℕ) (test : ℕ → Bool) (t : upto 35 (λ n. pick (counted s n) (test n) true) ≡ true) where
-  passed : (n : ℕ) → counted s n ≡ true → test n ≡ true
-  passed n e = rw e at (upto-at 35 (λ n. pick (counted s n) (test n) true) t n (omega (arith, counted-few s n e)))
+-- up to 34 the counts are those from one number to another, in steps
+abbrev pub Counts : ℕ → ℕ → ℕ → ℕ → Type 0
+Counts s least most step = (n : ℕ) → n ≤ 34 → counted s n ≡ inSteps least most step n
 
-abbrev between : ℕ → ℕ → ℕ → Bool
-between lo hi n = leb lo n && leb n hi
+same : (a b : Bool) → Bool·beq a b ≡ true → a ≡ b
+same true true e = refl
+same true false e = cc
+same false true e = cc
+same false false e = refl
 
-ranged : (s lo hi : ℕ) → upto 35 (λ n. pick (counted s n) (between lo hi n) true) ≡ true → (n : ℕ) → counted s n ≡ true → (lo ≤ n) × (n ≤ hi)
-ranged s lo hi t n e =
-    let p : between lo hi n ≡ true = passed s (between lo hi) t n e in
-    (leb-true lo n (both-left (leb lo n) (leb n hi) p), leb-true n hi (both-right (leb lo n) (leb n hi) p))
+tested : (s least most step : ℕ) → upto 35 (λ n. Bool·beq (counted s n) (inSteps least most step n)) ≡ true → Counts s least most step
+tested s least most step e n h = same _ _ (upto-at 35 (λ n. Bool·beq (counted s n) (inSteps least most step n)) e n (omega arith))
 
-only : (s k : ℕ) → upto 35 (λ n. pick (counted s n) (eqb n k) true) ≡ true → (n : ℕ) → counted s n ≡ true → n ≡ k
-only s k t n e = eqb-true n k (passed s (λ n. eqb n k) t n e)
+pub counts1 : Counts 1 1 32 1
+unfolding counted symbologyOf symbologies
+counts1 = tested 1 1 32 1 refl
+
+pub counts2 : Counts 2 1 32 1
+unfolding counted symbologyOf symbologies
+counts2 = tested 2 1 32 1 refl
+
+pub counts3 : Counts 3 3 34 1
+unfolding counted symbologyOf symbologies
+counts3 = tested 3 3 34 1 refl
+
+pub counts4 : Counts 4 1 32 1
+unfolding counted symbologyOf symbologies
+counts4 = tested 4 1 32 1 refl
+
+pub counts5 : Counts 5 2 32 2
+unfolding counted symbologyOf symbologies
+counts5 = tested 5 2 32 2 refl
+
+pub counts6 : Counts 6 1 32 1
+unfolding counted symbologyOf symbologies
+counts6 = tested 6 1 32 1 refl
+
+pub counts7 : Counts 7 13 13 1
+unfolding counted symbologyOf symbologies
+counts7 = tested 7 13 13 1 refl
+
+pub counts8 : Counts 8 8 8 1
+unfolding counted symbologyOf symbologies
+counts8 = tested 8 8 8 1 refl
+
+pub counts9 : Counts 9 12 12 1
+unfolding counted symbologyOf symbologies
+counts9 = tested 9 12 12 1 refl
+
+module _ (s least most step : ℕ) (k : Counts s least most step) (n : ℕ) (e : counted s n ≡ true) where
+  stepped : inSteps least most step n ≡ true
+  stepped = sym (k n (counted-few s n e)) ∙ e
+
+  ranged : (least ≤ n) × (n ≤ most)
+  ranged =
+      let a : (leb least n && leb n most) ≡ true = both-left (leb least n && leb n most) (eqb (n % step) 0) stepped in
+      (leb-true least n (both-left (leb least n) (leb n most) a), leb-true n most (both-right (leb least n) (leb n most) a))
+
+  whole : n % step ≡ 0
+  whole = eqb-true (n % step) 0 (both-right (leb least n && leb n most) (eqb (n % step) 0) stepped)
 
 pub counted-39 : (n : ℕ) → counted 1 n ≡ true → (0 < n) × (n ≤ 32)
-unfolding counted symbologyOf symbologies
-counted-39 = ranged 1 1 32 refl
+counted-39 = ranged 1 1 32 1 counts1
 
 pub counted-full : (n : ℕ) → counted 2 n ≡ true → (0 < n) × (n ≤ 32)
-unfolding counted symbologyOf symbologies
-counted-full = ranged 2 1 32 refl
+counted-full = ranged 2 1 32 1 counts2
 
 pub counted-codabar : (n : ℕ) → counted 3 n ≡ true → (3 ≤ n) × (n ≤ 34)
-unfolding counted symbologyOf symbologies
-counted-codabar = ranged 3 3 34 refl
+counted-codabar = ranged 3 3 34 1 counts3
 
 pub counted-industrial : (n : ℕ) → counted 4 n ≡ true → (0 < n) × (n ≤ 32)
-unfolding counted symbologyOf symbologies
-counted-industrial = ranged 4 1 32 refl
+counted-industrial = ranged 4 1 32 1 counts4
 
 pub counted-interleaved : (n : ℕ) → counted 5 n ≡ true → (2 ≤ n) × (n ≤ 32)
-unfolding counted symbologyOf symbologies
-counted-interleaved = ranged 5 2 32 refl
+counted-interleaved = ranged 5 2 32 2 counts5
 
 pub counted-even : (n : ℕ) → counted 5 n ≡ true → n ≡ 2 * (n / 2)
-unfolding counted symbologyOf symbologies
-counted-even n e = eqb-true n (2 * (n / 2)) (passed 5 (λ n. eqb n (2 * (n / 2))) refl n e)
+counted-even n e = omega (arith, whole 5 2 32 2 counts5 n e)
 
 pub counted-matrix : (n : ℕ) → counted 6 n ≡ true → (0 < n) × (n ≤ 32)
-unfolding counted symbologyOf symbologies
-counted-matrix = ranged 6 1 32 refl
+counted-matrix = ranged 6 1 32 1 counts6
 
 pub counted-ean13 : (n : ℕ) → counted 7 n ≡ true → n ≡ 13
-unfolding counted symbologyOf symbologies
-counted-ean13 = only 7 13 refl
+counted-ean13 n e = omega (arith, ranged 7 13 13 1 counts7 n e)
 
 pub counted-ean8 : (n : ℕ) → counted 8 n ≡ true → n ≡ 8
-unfolding counted symbologyOf symbologies
-counted-ean8 = only 8 8 refl
+counted-ean8 n e = omega (arith, ranged 8 8 8 1 counts8 n e)
 
 pub counted-upc : (n : ℕ) → counted 9 n ≡ true → n ≡ 12
-unfolding counted symbologyOf symbologies
-counted-upc = only 9 12 refl
+counted-upc n e = omega (arith, ranged 9 12 12 1 counts9 n e)
 
 -- ---- no other symbology
 

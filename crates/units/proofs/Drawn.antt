@@ -3,7 +3,6 @@
 --   too-many      one of more holds nothing, and nothing is no row
 --   not-ready     a row that is not ready; is-ready, is-counted, is-few, one that is
 --   too-short     a strip that is longer than the buffer
---   cut-long      the room's first elements are as many as the strip's
 --   laid          a strip, copied in front of what stood there
 --
 -- Assumes nothing.
@@ -76,15 +75,12 @@ module _ (s : ℕ) (row : Row) (out : List ℕ) (h : row .len ≤ 34) (places : 
           let t : ltb (length out) (elementsOf s (length (take (row .len) (row .codes)))) ≡ true = lt-ltb (length out) _ (omega (arith, named)) in
           rw (held row h) (rw (e, t, ← named) refl, rw (e, t) refl)
 
-      pub cut-long : (room : List ℕ) → length room ≡ 339 → n ≡ length (take n room)
-      cut-long room l = sym (length-take-le n room (omega (arith, is-few)))
-
       pub laid : (room next : List ℕ) (m : ℕ) → n ≤ length out → m ≡ modulesOf s (take (row .len) (row .codes)) → length room ≡ 339
           → take (elementsOf s (row .len)) room ≡ stripOf s (take (row .len) (row .codes)) → next ≡ take (length (take n room)) (take n room) ++ drop (length (take n room)) out
           → (Strip (elementCount n) (moduleCount m) ≡ laidOf s (charsOf row) (length out)) × (next ≡ laidIn s (charsOf row) out)
       unfolding laidOf laidIn
       laid room next m k w l t f =
-          let g : length (take n room) ≡ n = sym (cut-long room l) in
+          let g : length (take n room) ≡ n = length-take-le n room (omega (arith, is-few)) in
           let a : take n room ≡ stripOf s (take (row .len) (row .codes)) = ap (λ (x : ℕ). take x room) q ∙ t in
           let c : next ≡ stripOf s (take (row .len) (row .codes)) ++ drop n out
           = f ∙ ap (λ (x : ℕ). take x (take n room) ++ drop x out) g

@@ -3,7 +3,6 @@ pub mod Counted
 pub mod Ready
 pub mod Totals
 pub mod Putting
-pub mod Sets
 pub mod Parts
 pub mod Given
 pub mod Sides

@@ -38,9 +38,9 @@ use Rattle.rows.proofs.Numbers.{others}
 use Rattle.units.specs.Laid.{counted, allAllowed, ready}
 use Rattle.units.specs.Room.{inSteps, allIn}
 use Rattle.units.specs.Totals.{ofCodabar}
-use Rattle.units.proofs.Counted.{counted-codabar, known, by-number}
+use Rattle.units.proofs.Ready.{allowed-in}
+use Rattle.units.proofs.Counted.{counted-codabar, known, by-number, counts1, counts2, counts4, counts6}
 use Rattle.units.proofs.Given.{count}
-use Rattle.units.proofs.Sets.{counts1, counts2, counts4, counts6, allowed-in}
 
 -- ---- a conjunction by its first test, which a call answered
 

@@ -6,7 +6,7 @@
 --   room-left, row-ends   room for one unit more; where the row of a character ends
 --   units-start, units-more, units-end    the loop over units
 --   pair-start, pair-more      the loop over a pair's elements
---   digit-ends    where the row of a pair's digit ends
+--   both-end      where the rows of a pair's digits end
 --   pairs-start, pairs-more    the loop over pairs
 --   follow, three    two calls, and three, one behind the other
 --
@@ -136,11 +136,16 @@ pairs-snoc t (suc i) (c ∷ []) a b e = absurd (omega arith)
 pairs-snoc t (suc i) (c ∷ d ∷ cs) a b e =
     rw append-assoc (ap (λ (zs : List ℕ). weave (cut t (5 * c) 5) (cut t (5 * d) 5) ++ zs) (pairs-snoc t i cs a b (omega arith)))
 
-pub digit-ends : (codes : List ℕ) (long n j : ℕ) → n ≤ length codes → j < n → Within long 0 5 (take n codes) → 5 * getD codes j 0 + 5 ≤ long
+digit-ends : (codes : List ℕ) (long n j : ℕ) → n ≤ length codes → j < n → Within long 0 5 (take n codes) → 5 * getD codes j 0 + 5 ≤ long
 digit-ends codes long n j l h w =
     let b : 0 + 5 * getD codes j 0 + 5 ≤ long
     = rw (getD-take n codes j 0 h) at (below-at long 0 5 (take n codes) j w (rw (length-take-le n codes l) h)) in
     omega arith
+
+pub both-end : (codes : List ℕ) (long n i : ℕ) → 2 * n ≤ length codes → i < n → Within long 0 5 (take (2 * n) codes)
+    → (5 * getD codes (2 * i) 0 + 5 ≤ long) × (5 * getD codes (2 * i + 1) 0 + 5 ≤ long)
+both-end codes long n i l h w =
+    (digit-ends codes long (2 * n) (2 * i) l (omega arith) w, digit-ends codes long (2 * n) (2 * i + 1) l (omega arith) w)
 
 pub pairs-start : (room t : List ℕ) (at : ℕ) (cs : List ℕ) → take (at + 10 * 0) room ≡ take at room ++ pairsIn t (take (2 * 0) cs)
 pairs-start room t at cs = rw (mul-zero 10, mul-zero 2, add-zero at, append-nil)

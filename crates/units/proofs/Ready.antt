@@ -3,6 +3,7 @@
 --
 --   drawn-ready     a row that is drawn is ready
 --   ready-counted, ready-allowed, ready-below    what a ready row passed: its count, its characters, outside Codabar each of its set
+--   allowed-in      outside Codabar a character is of its set, wherever it stands
 --   letter-high, letter-low    Codabar's letters have the values 16 to 19
 --   ready-fits      the choices that a ready row makes fit the units of its strip
 --   steady-39 ..    every free set of these strips is uniform: all but Codabar's inner one
@@ -20,7 +21,7 @@ use native.Mathlib.Decide.{ℕ-discrete}
 use lib.Dec.{eqb, ltb, leb, lit<}
 use lib.ListN.{length, getD, take, drop, length-drop}
 use lib.Seq.{take-length, drop-length}
-use borrow.Author.Tests.{ltb-true, leb-true, lt-ltb, ne-eqb}
+use borrow.Author.Tests.{ltb-true, leb-true, lt-ltb, le-leb, ne-eqb}
 use Rattle.laws.specs.Search.{pick}
 use Rattle.laws.specs.Units.{Kind, fixed, free, Reading, found, stopped, push, Fits, All}
 use Rattle.laws.specs.Shapes.{many, shape}
@@ -46,6 +47,7 @@ use Rattle.rows.proofs.Within.{in-set}
 use Rattle.units.specs.Plans.{Plan, lettered, paired, sides, sided, code39, codabar, industrial, interleaved, matrix, halves, nothing, plans, planOf, unitsOf}
 use Rattle.units.specs.Totals.{totals, elementsOf}
 use Rattle.units.specs.Laid.{counts, counted, allowed, allAllowed, ready}
+use Rattle.units.specs.Room.{allIn}
 use Rattle.units.proofs.Laying.{One, fits-many, Steady, steady-many, steady-shape, steady-good}
 use Rattle.units.proofs.Counted.{counted-39, counted-full, counted-codabar, counted-industrial, counted-interleaved, counted-matrix, counted-ean13, counted-ean8, counted-upc, by-number}
 
@@ -71,6 +73,11 @@ module _ (s : ℕ) (n : eqb s 3 ≡ false) where
         ltb-true c (size (symbologyOf s .alphabet)) (rw n at a),
         allowed-below false cs (both-right (allowed s (atEnd start cs) c) (allAllowed s false cs) e),
       )
+
+-- outside Codabar the place does not matter
+pub allowed-in : (s : ℕ) (start : Bool) (r : List ℕ) → eqb s 3 ≡ false → allAllowed s start r ≡ allIn 0 (size (symbologyOf s .alphabet)) r
+allowed-in s start [] n = refl
+allowed-in s start (c ∷ cs) n = rw (n, allowed-in s false cs n, le-leb 0 c (omega arith)) refl
 
 pub ready-below : (s : ℕ) (r : List ℕ) → eqb s 3 ≡ false → ready s r ≡ true → Below (size (symbologyOf s .alphabet)) r
 ready-below s r n h = allowed-below s n true r (ready-allowed s r h)

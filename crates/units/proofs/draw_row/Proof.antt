@@ -1,14 +1,15 @@
 -- `draw_row`: the tests in their order, the strip in the room, and its first elements copied.
 -- Assumes nothing.
-use mathlib.Core.Path.{_≡_, refl}
+use mathlib.Core.Path.{_≡_, refl, sym}
 use mathlib.Core.Bool.{true}
 use Prim.Native.Nat.{_≤_}
 use native.Mathlib.Omega.{arith}
-use lib.ListN.{length, take}
+use lib.ListN.{length, take, length-take}
+use lib.Seq.{length-take-le}
 use borrow.Author.Needs.{needs}
 use Rattle.units.specs.Totals.{elementsOf}
 use Rattle.units.specs.Laid.{ready}
-use Rattle.units.proofs.Drawn.{too-many, not-ready, is-ready, is-counted, is-few, too-short, cut-long, laid}
+use Rattle.units.proofs.Drawn.{too-many, not-ready, is-ready, is-counted, is-few, too-short, laid}
 use Rattle.units.proofs.draw_row.Statement.{statement}
 use Rattle.units.proofs.draw_row.Tie as tie
 
@@ -63,26 +64,17 @@ slice-aggregate-copy c =
     let b = c .before .before .before .before .before .before in
     let a = b .before .before .before .before .args in
     let h = b .before .before .if1 .left in
-    let n = c .before .before .before .before .elements-of in
     let places : length (a .row .codes) ≡ 34 = search needs in
-    cut-long (a .symbology) (a .row) (a .out .now) h places
-    (is-ready (a .symbology) (a .row) (a .out .now) h places (b .is-ready .result) (b .is-ready .ensures) (c .before .before .before .before .before .if2 .left))
-    (n .result) (n .ensures) (c .before .build .last .0) (c .before .build .ensures .0)
+    sym (length-take-le _ (c .before .build .last .0) (omega (
+      arith,
+      c .before .build .ensures .0,
+      c .before .before .before .before .elements-of .ensures,
+      is-few (a .symbology) (a .row) (a .out .now) h places
+          (is-ready (a .symbology) (a .row) (a .out .now) h places (b .is-ready .result) (b .is-ready .ensures) (c .before .before .before .before .before .if2 .left)),
+    )))
 
 copy-requires : tie.Need-copy-requires
-copy-requires c κs =
-    let b = c .before .before .before .before .before .before .before in
-    let a = b .before .before .before .before .args in
-    let h = b .before .before .if1 .left in
-    let n = c .before .before .before .before .before .elements-of in
-    let places : length (a .row .codes) ≡ 34 = search needs in
-    omega (
-      arith,
-      c .before .before .before .before .if3 .left,
-      cut-long (a .symbology) (a .row) (a .out .now) h places
-          (is-ready (a .symbology) (a .row) (a .out .now) h places (b .is-ready .result) (b .is-ready .ensures) (c .before .before .before .before .before .before .if2 .left))
-          (n .result) (n .ensures) (c .before .before .build .last .0) (c .before .before .build .ensures .0),
-    )
+copy-requires c κs = rw length-take (omega (arith, c .before .before .before .before .if3 .left))
 
 modules-of-requires : tie.Need-modules-of-requires
 modules-of-requires c κs =

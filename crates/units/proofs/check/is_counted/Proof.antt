@@ -4,7 +4,7 @@ use mathlib.Core.Path.{sym, _∙_}
 use mathlib.Core.Logic.{⊎-elim}
 use native.Mathlib.Omega.{arith}
 use borrow.Author.Needs.{needs}
-use Rattle.units.proofs.Sets.{counts3, counts5, counts7, counts8, counts9}
+use Rattle.units.proofs.Counted.{counts3, counts5, counts7, counts8, counts9}
 use Rattle.units.proofs.Passes.{one-two, four-six, uncounted, uncounted-past}
 use Rattle.units.proofs.check.is_counted.Statement.{statement}
 use Rattle.units.proofs.check.is_counted.Tie as tie

@@ -7,7 +7,7 @@ use native.Mathlib.Omega.{arith}
 use lib.ListN.{length, getD, take}
 use borrow.Author.Needs.{needs}
 use Rattle.units.specs.Room.{pairsIn}
-use Rattle.units.proofs.Putting.{digit-ends, pairs-start, pairs-more}
+use Rattle.units.proofs.Putting.{both-end, pairs-start, pairs-more}
 use Rattle.units.proofs.room.put_pairs.Statement.{statement}
 use Rattle.units.proofs.room.put_pairs.Tie as tie
 
@@ -23,29 +23,23 @@ mul-put-pair c =
     let l = c .before .before in
     let a = l .before .before .args in
     let long : length (a .t4) ≡ 34 = search needs in
-    omega (arith, digit-ends (a .t4) (length (a .text .now)) (2 * a .n) (2 * l .loop .i) (omega arith) (omega arith) (l .before .before .pre .1))
+    omega (arith, both-end (a .t4) (length (a .text .now)) (a .n) (l .loop .i) (omega arith) (omega arith) (l .before .before .pre .1))
 
 mul-put-pair-2 : tie.Need-mul-put-pair-2 Inv-loop μ-loop
 mul-put-pair-2 c =
     let l = c .before .before in
     let a = l .before .before .args in
     let long : length (a .t4) ≡ 34 = search needs in
-    omega (arith, digit-ends (a .t4) (length (a .text .now)) (2 * a .n) (2 * l .loop .i + 1) (omega arith) (omega arith) (l .before .before .pre .1))
+    omega (arith, both-end (a .t4) (length (a .text .now)) (a .n) (l .loop .i) (omega arith) (omega arith) (l .before .before .pre .1))
 
 put-pair-requires : tie.Need-put-pair-requires Inv-loop μ-loop
 put-pair-requires c κs =
     let l = c .before .before in
     let a = l .before .before .args in
-    let long : length (a .t4) ≡ 34 = search needs in (
-      l .loop .inv .1,
-      (
-        omega (arith, l .loop .inv .2),
-        (
-          digit-ends (a .t4) (length (a .text .now)) (2 * a .n) (2 * l .loop .i) (omega arith) (omega arith) (l .before .before .pre .1),
-          digit-ends (a .t4) (length (a .text .now)) (2 * a .n) (2 * l .loop .i + 1) (omega arith) (omega arith) (l .before .before .pre .1),
-        ),
-      ),
-    )
+    let long : length (a .t4) ≡ 34 = search needs in
+    let e : (5 * getD (a .t4) (2 * l .loop .i) 0 + 5 ≤ length (a .text .now)) × (5 * getD (a .t4) (2 * l .loop .i + 1) 0 + 5 ≤ length (a .text .now))
+    = both-end (a .t4) (length (a .text .now)) (a .n) (l .loop .i) (omega arith) (omega arith) (l .before .before .pre .1) in
+    (l .loop .inv .1, (omega (arith, l .loop .inv .2), (omega arith, omega arith)))
 
 loop-again : tie.Need-loop-again Inv-loop μ-loop
 loop-again c =
