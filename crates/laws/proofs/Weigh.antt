@@ -15,7 +15,7 @@ use mathlib.Core.Logic.{_≢_, _↔_}
 use mathlib.Core.List.{List, [], _∷_, _++_, reverse, reverseAux}
 use Prim.Native.Nat.{ℕ, zero, suc, _+_, _*_, _%_, _<_, _≤_}
 use native.Mathlib.Omega.{arith}
-use native.Mathlib.Nat.{le-of-suc-le-suc, not-suc-le-zero, mod-add-mod, add-mod-mod, mod-eq-of-lt, mul-add, mul-comm, mul-assoc, mul-left-comm, mul-one, mul-zero, zero-mod, zero-add, add-zero}
+use native.Mathlib.Nat.{le-of-suc-le-suc, not-suc-le-zero, add-mod-mod, mod-eq-of-lt, mul-add, mul-comm, mul-assoc, mul-left-comm, mul-one, mul-zero, zero-mod, zero-add, add-zero}
 use native.Mathlib.Numerals.{add-one}
 use lib.ListN.{length, getD, take, set, length-set}
 use lib.Seq.{getD-set-other, take-all}
@@ -34,14 +34,14 @@ dot-take (w ∷ ws) [] i h = absurd (not-suc-le-zero h)
 dot-take (w ∷ ws) (x ∷ xs) zero h = omega (arith, dot-none ws)
 dot-take (w ∷ ws) (x ∷ xs) (suc i) h = omega (arith, dot-take ws xs i (le-of-suc-le-suc h))
 
-module _ (m : ℕ) (ws xs : List ℕ) where
-  pub after-none : after m ws xs 0 ≡ 0
-  after-none = rw dot-none (zero-mod m)
+module _ (ws xs : List ℕ) where
+  pub after-none : after ws xs 0 ≡ 0
+  after-none = dot-none ws
 
-  pub after-next : (i : ℕ) → i < length xs → after m ws xs (i + 1) ≡ (after m ws xs i + getD ws i 0 * getD xs i 0) % m
-  after-next i h = rw (add-one, dot-take ws xs i h, mod-add-mod)
+  pub after-next : (i : ℕ) → i < length xs → after ws xs (i + 1) ≡ after ws xs i + getD ws i 0 * getD xs i 0
+  after-next i h = rw add-one (dot-take ws xs i h)
 
-  pub after-all : (i : ℕ) → length xs ≤ i → after m ws xs i ≡ dot ws xs % m
+  pub after-all : (i : ℕ) → length xs ≤ i → after ws xs i ≡ dot ws xs
   after-all i h = rw (take-all i xs h)
 
 -- ---- one value replaced, two neighbours exchanged

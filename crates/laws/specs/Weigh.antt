@@ -2,7 +2,7 @@
 --
 --   dot        the weighted sum: each value times the weight at its place
 --   turns      n weights that take turns
---   after      the state after i characters: their weighted sum, by the modulus
+--   after      the state after i characters: their weighted sum
 --   swap       a row with the values at i and behind it exchanged
 --   Inverses   each weight has an inverse by the modulus: it takes part in telling values apart
 use mathlib.Core.Path.{_≡_}
@@ -19,8 +19,8 @@ abbrev pub turns : ℕ → ℕ → ℕ → List ℕ
 turns w v zero = []
 turns w v (suc n) = w ∷ turns v w n
 
-abbrev pub after : ℕ → List ℕ → List ℕ → ℕ → ℕ
-after m ws xs i = dot ws (take i xs) % m
+abbrev pub after : List ℕ → List ℕ → ℕ → ℕ
+after ws xs i = dot ws (take i xs)
 
 abbrev pub swap : List ℕ → ℕ → List ℕ
 swap xs i = set (set xs i (getD xs (suc i) 0)) (suc i) (getD xs i 0)

@@ -76,14 +76,14 @@ itemOf k start (c ∷ []) = record { byte = byteFor k true (c ∷ []); width = 1
 itemOf k start (c ∷ d ∷ cs) =
     pick (k .shift c) (record { byte = byteFor k (atEnd start cs) (c ∷ d ∷ []); width = 2 }) (record { byte = byteFor k start (c ∷ []); width = 1 })
 
-pub record Small (s : Sum) : Type 0 where
-  pub total : s .total < s .modulus
-  pub modulus : s .modulus ≤ 100
+-- after i bytes, each of a weight of at most 100
+pub record Small (i : ℕ) (s : Sum) : Type 0 where
+  pub total : s .total ≤ 25500 * i
   pub weight : s .weight ≤ 100
   pub other : s .other ≤ 100
 
 abbrev pub taken : Sum → ℕ → Sum
-taken s v = record { modulus = s .modulus; weight = s .other; other = s .weight; total = (s .total + s .weight * v) % s .modulus }
+taken s v = record { modulus = s .modulus; weight = s .other; other = s .weight; total = s .total + s .weight * v }
 
 abbrev pub weighed : Sum → List ℕ → ℕ
 weighed s [] = s .total

@@ -1,7 +1,7 @@
-// The check character (document 01, "Checks"): a weighted sum by a modulus, taken up one character at a time.
+// The check character (document 01, "Checks"): a weighted sum, taken up one character at a time, and its remainder by a modulus.
 use super::row::Row;
 ghost use mathlib.Core.Path.{_≡_};
-ghost use Prim.Native.Nat.{_%_, _<_, _≤_};
+ghost use Prim.Native.Nat.{_+_, _≤_};
 ghost use lib.ListN.{take};
 ghost use Rattle.rows.specs.Symbologies.{symbologyOf};
 ghost use Rattle.rows.specs.Checks.{checkOf};
@@ -15,38 +15,25 @@ pub struct Sum {
     pub total: usize,
 }
 
-// A remainder: each modulus in use has its own constant divisor, which is quicker than dividing by a variable.
-fn remainder(x: usize, modulus: usize) -> usize
-    requires { ⌜ 0 < modulus ⌝ }
-    ensures { λ r. ⌜ r ≡ x % modulus ⌝ }
-{
-    if modulus == 43 {
-        x % 43
-    } else if modulus == 10 {
-        x % 10
-    } else {
-        x % modulus
-    }
-}
-
 impl Sum {
     // With one value more.
     pub fn take(self, value: u8) -> Sum
-        requires { ⌜ Small self ⌝ }
+        requires { ⌜ Small 33 self ⌝ }
         ensures { λ r. ⌜ r ≡ taken self value ⌝ }
+        ensures { λ r. ⌜ r .total ≤ self .total + 25500 ⌝ }
     {
         Sum {
             modulus: self.modulus,
             weight: self.other,
             other: self.weight,
-            total: remainder(self.total + self.weight * (value as usize), self.modulus),
+            total: self.total + self.weight * (value as usize),
         }
     }
 }
 
 // The sum of the first n characters of a row.
 pub fn sum_of(start: Sum, row: Row, n: usize) -> usize
-    requires { ⌜ (Small start) × (n ≤ 34) ⌝ }
+    requires { ⌜ (Small 0 start) × (n ≤ 34) ⌝ }
     ensures { λ r. ⌜ r ≡ weighed start (take n (row .codes)) ⌝ }
 {
     let mut sum = start;

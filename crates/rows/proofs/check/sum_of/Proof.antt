@@ -7,12 +7,12 @@ use Prim.Native.Nat.{_-_, _≤_}
 use lib.ListN.{length, take, drop, drop-of-length-le}
 use lib.Seq.{length-take-le}
 use Rattle.rows.specs.Held.{Small, weighed}
-use Rattle.rows.proofs.Sums.{small-taken, weighed-at}
+use Rattle.rows.proofs.Sums.{small-taken, small-more, weighed-at}
 use Rattle.rows.proofs.check.sum_of.Statement.{statement}
 use Rattle.rows.proofs.check.sum_of.Tie as tie
 
 abbrev Inv-loop : tie.InvT-loop
-Inv-loop n row sum₀ i₀ sum i = (i ≤ n) × Small sum × (weighed sum₀ (take n (row .codes)) ≡ weighed sum (drop i (take n (row .codes))))
+Inv-loop n row sum₀ i₀ sum i = (i ≤ n) × Small i sum × (weighed sum₀ (take n (row .codes)) ≡ weighed sum (drop i (take n (row .codes))))
 
 abbrev μ-loop : tie.MeasureT-loop
 μ-loop n row sum₀ i₀ sum i = n - i
@@ -21,7 +21,7 @@ loop-again : tie.Need-loop-again Inv-loop μ-loop
 loop-again c = let l = c .before .before .before in
     let a = l .before .args in
     let long : length (a .t2 .codes) ≡ 34 = search needs in
-    (omega arith, rw (c .take .ensures) (small-taken (l .loop .sum) _ (l .loop .inv .1)), l .loop .inv .2 ∙ rw (c .take .ensures) (weighed-at (l .loop .sum) (a .t2 .codes) (a .n) (l .loop .i) (c .before .before .loop-test .taken) (omega (arith, l .before .pre .1))))
+    (omega arith, rw (c .take .ensures .0) (small-taken (l .loop .i) (l .loop .sum) _ (l .loop .inv .1) (rw (c .take .ensures .0) at (c .take .ensures .1))), l .loop .inv .2 ∙ rw (c .take .ensures .0) (weighed-at (l .loop .sum) (a .t2 .codes) (a .n) (l .loop .i) (c .before .before .loop-test .taken) (omega (arith, l .before .pre .1))))
 
 returns : tie.Need-returns Inv-loop μ-loop
 returns c = let a = c .before .before .args in
@@ -37,7 +37,7 @@ sum-of-spec =
     μ-loop
     (λ c. (omega arith, c .pre .0, refl))
     (λ c. let long : length (c .before .before .args .t2 .codes) ≡ 34 = search needs in omega (arith, c .before .before .pre .1))
-    (λ c κs. c .before .before .loop .inv .1)
+    (λ c κs. small-more (c .before .before .loop .i) 33 (c .before .before .loop .sum) (omega (arith, c .before .before .before .pre .1)) (c .before .before .loop .inv .1))
     (λ c. search needs)
     (λ c. search needs)
     loop-again
