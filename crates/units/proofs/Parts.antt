@@ -4,7 +4,8 @@
 --   units-of      n times a group of one character: its rows one behind the other
 --   pairs-of      n pairs
 --   within-below  the rows of characters of a set lie within the text
---   strip39 .. stripUpc    the strip of each symbology
+--   between-ends, built    a start, the characters, a stop, and the call that puts them there
+--   strip39, stripIndustrial, stripMatrix, stripCodabar, stripInterleaved, two-halves    the strip of each symbology
 --
 -- Assumes nothing.
 use mathlib.Core.Path.{_≡_, refl, sym, ap, _∙_}
@@ -26,10 +27,10 @@ use Rattle.tables.specs.Code39.{table42, chars39, alphabet39, rows39, star39}
 use Rattle.tables.specs.Codabar.{table41, alphabetCodabar, innerRows, letterRows}
 use Rattle.tables.specs.TwoOfFive.{table44, alphabetDigits, digitRows, industrialRows, industrialStart, industrialStop, interleavedRows, interleavedStart, interleavedStop, matrixRows, matrixEnds}
 use Rattle.tables.specs.Ean.{table52, patterns, oddRows, evenRows, leftRows, rightRows, guard, centre}
+use Rattle.units.specs.declared.layout.Ends.{Ends}
 use Rattle.units.specs.Plans.{code39, codabar, industrial, interleaved, matrix, halves, lettered, paired, plans, planOf, unitsOf, stripOf}
 use Rattle.units.specs.Totals.{elementsOf}
-use Rattle.units.specs.Room.{cut, parted, unitsIn, Within, pairsIn, leftIn, rightIn, text39, textCodabar, textIndustrial, textInterleaved, textMatrix, textEan}
-use Rattle.units.proofs.Putting.{three}
+use Rattle.units.specs.Room.{cut, parted, unitsIn, partedIn, Within, pairsIn, leftIn, rightIn, text39, textCodabar, textIndustrial, textInterleaved, textMatrix, textEan}
 
 -- ---- rows where they are cut
 
@@ -71,37 +72,44 @@ shows t base k rows e c h ks cs = rw (row-of t base k (λ r. r) rows e c h)
 
 -- ---- Code 39, Industrial, Matrix: a start, the characters, a stop, parted
 
-abbrev pub parts : ℕ → ℕ → ℕ → ℕ → ℕ → List ℕ → List ℕ → List ℕ
-parts k hf hk tf tk r t = cut t hf hk ++ unitsIn t 0 k r ++ cut t tf tk
-
-pub between-ends : (t : List ℕ) (k hf hk tf tk : ℕ) (rows : List (List ℕ)) (start stop : List ℕ) → row-test t 0 k parted rows ≡ true
-    → cut t hf hk ≡ parted start → cut t tf tk ≡ stop → (r : List ℕ) → Below (length rows) r
-    → strip (fixed start ∷ gap ∷ many (length r) (free rows ∷ gap ∷ []) (fixed stop ∷ [])) r ≡ cut t hf hk ++ unitsIn t 0 k r ++ cut t tf tk
-between-ends t k hf hk tf tk rows start stop e a z r b =
+pub between-ends : (t : List ℕ) (k : ℕ) (e : Ends) (rows : List (List ℕ)) (start stop : List ℕ) → row-test t 0 k parted rows ≡ true
+    → cut t (e .start) (e .long) ≡ parted start → cut t (e .stop) (e .short) ≡ stop → (r : List ℕ) → Below (length rows) r
+    → strip (fixed start ∷ gap ∷ many (length r) (free rows ∷ gap ∷ []) (fixed stop ∷ [])) r ≡ partedIn k e r t
+between-ends t k e rows start stop f a z r b =
     let u : strip (many (length r) (free rows ∷ gap ∷ []) (fixed stop ∷ [])) (r ++ []) ≡ unitsIn t 0 k r ++ (stop ++ [])
-    = units-of t 0 k (length rows) (free rows ∷ gap ∷ []) (fixed stop ∷ []) (shows-parted t 0 k rows e) r [] b in
+    = units-of t 0 k (length rows) (free rows ∷ gap ∷ []) (fixed stop ∷ []) (shows-parted t 0 k rows f) r [] b in
     let v : strip (many (length r) (free rows ∷ gap ∷ []) (fixed stop ∷ [])) r ≡ unitsIn t 0 k r ++ stop
-    = ap (λ (x : List ℕ). strip (many (length r) (free rows ∷ gap ∷ []) (fixed stop ∷ [])) x) (sym (append-nil r)) ∙ u ∙ ap (λ (x : List ℕ). unitsIn t 0 k r ++ x) (append-nil stop) in
-    rw (a, z) (ap (λ (x : List ℕ). start ++ ((1 ∷ []) ++ x)) v ∙ sym (append-assoc start (1 ∷ []) (unitsIn t 0 k r ++ stop)) ∙ sym (append-assoc (parted start) (unitsIn t 0 k r) stop))
+    = ap (λ (x : List ℕ). strip (many (length r) (free rows ∷ gap ∷ []) (fixed stop ∷ [])) x) (sym (append-nil r))
+    ∙ u ∙ ap (λ (x : List ℕ). unitsIn t 0 k r ++ x) (append-nil stop) in
+    rw (a, z)
+    (ap (λ (x : List ℕ). start ++ ((1 ∷ []) ++ x)) v ∙ sym (append-assoc start (1 ∷ []) (unitsIn t 0 k r ++ stop))
+    ∙ sym (append-assoc (parted start) (unitsIn t 0 k r) stop))
 
--- the three calls that put it there
-pub built : (s k hf hk tf tk : ℕ) (text t r e₁ e₂ e₃ : List ℕ) (n a b : ℕ) → t ≡ text → stripOf s r ≡ parts k hf hk tf tk r text
-    → take hk e₁ ≡ cut t hf hk → a ≡ hk → take (a + k * n) e₂ ≡ take a e₁ ++ unitsIn t 0 k r → b ≡ a + k * n
-    → take (b + tk) e₃ ≡ take b e₂ ++ cut t tf tk → elementsOf s n ≡ b + tk → take (elementsOf s n) e₃ ≡ stripOf s r
-built s k hf hk tf tk text t r e₁ e₂ e₃ n a b q f x d y g w l =
-    three e₁ e₂ e₃ (cut t hf hk) (unitsIn t 0 k r) (cut t tf tk) hk a b (k * n) tk (elementsOf s n) x d y g w l ∙ ap (parts k hf hk tf tk r) q ∙ sym f
+abbrev pub ends39 : Ends
+ends39 = record { start = 430; long = 10; stop = 430; short = 9 }
 
-pub strip39 : (r : List ℕ) → Below 43 r → stripOf 1 r ≡ cut text39 430 10 ++ unitsIn text39 0 10 r ++ cut text39 430 9
+abbrev pub endsIndustrial : Ends
+endsIndustrial = record { start = 100; long = 6; stop = 106; short = 5 }
+
+abbrev pub endsMatrix : Ends
+endsMatrix = record { start = 60; long = 6; stop = 60; short = 5 }
+
+pub strip39 : (r : List ℕ) → Below 43 r → stripOf 1 r ≡ partedIn 10 ends39 r text39
 unfolding stripOf unitsOf planOf plans code39 text39 rows39 star39 rowsOf bitsOf alphabet39 chars39 table42
-strip39 = between-ends text39 10 430 10 430 9 rows39 star39 star39 refl refl refl
+strip39 = between-ends text39 10 ends39 rows39 star39 star39 refl refl refl
 
-pub stripIndustrial : (r : List ℕ) → Below 10 r → stripOf 4 r ≡ cut textIndustrial 100 6 ++ unitsIn textIndustrial 0 10 r ++ cut textIndustrial 106 5
+pub stripIndustrial : (r : List ℕ) → Below 10 r → stripOf 4 r ≡ partedIn 10 endsIndustrial r textIndustrial
 unfolding stripOf unitsOf planOf plans industrial textIndustrial industrialRows industrialStart industrialStop digitRows rowsOf alphabetDigits table44
-stripIndustrial = between-ends textIndustrial 10 100 6 106 5 industrialRows industrialStart industrialStop refl refl refl
+stripIndustrial = between-ends textIndustrial 10 endsIndustrial industrialRows industrialStart industrialStop refl refl refl
 
-pub stripMatrix : (r : List ℕ) → Below 10 r → stripOf 6 r ≡ cut textMatrix 60 6 ++ unitsIn textMatrix 0 6 r ++ cut textMatrix 60 5
+pub stripMatrix : (r : List ℕ) → Below 10 r → stripOf 6 r ≡ partedIn 6 endsMatrix r textMatrix
 unfolding stripOf unitsOf planOf plans matrix textMatrix matrixRows matrixEnds digitRows rowsOf alphabetDigits table44
-stripMatrix = between-ends textMatrix 6 60 6 60 5 matrixRows matrixEnds matrixEnds refl refl refl
+stripMatrix = between-ends textMatrix 6 endsMatrix matrixRows matrixEnds matrixEnds refl refl refl
+
+-- the call that puts it there
+pub built : (s k : ℕ) (e : Ends) (text t r room : List ℕ) (n : ℕ) → t ≡ text → stripOf s r ≡ partedIn k e r text → elementsOf s n ≡ e .long + k * n + e .short
+    → take (e .long + k * n + e .short) room ≡ partedIn k e r t → take (elementsOf s n) room ≡ stripOf s r
+built s k e text t r room n q f l x = ap (λ (m : ℕ). take m room) l ∙ x ∙ ap (partedIn k e r) q ∙ sym f
 
 -- ---- Codabar: letters at both ends
 

@@ -5,6 +5,7 @@
 --   text39 ..   the ready-made rows of each symbology, from the tables of source 001
 --   unitsIn     units of k elements one behind the other, each the row of its character
 --   Within      each of those rows lies within the text
+--   partedIn    a start, units, a stop
 --   pairsIn     pairs one behind the other, woven of their digits
 --   inSteps     whether a count lies between two and is a multiple of a third
 --   allIn       whether every value lies from one up to below another
@@ -15,6 +16,7 @@ use mathlib.Core.List.{List, [], _∷_, _++_, map}
 use Prim.Native.Nat.{ℕ, _+_, _*_, _-_, _%_, _≤_}
 use lib.Dec.{eqb, ltb, leb}
 use lib.ListN.{take, drop}
+use Rattle.units.specs.declared.layout.Ends.{Ends}
 use Rattle.laws.specs.Search.{pick}
 use Rattle.tables.specs.Bits.{bit, weave}
 use Rattle.tables.specs.Code39.{rows39, star39}
@@ -56,6 +58,9 @@ textEan = digits (flat oddRows ++ flat evenRows ++ flat rightRows ++ guard ++ ce
 abbrev pub unitsIn : List ℕ → ℕ → ℕ → List ℕ → List ℕ
 unitsIn t base k [] = []
 unitsIn t base k (c ∷ cs) = cut t (base + k * c) k ++ unitsIn t base k cs
+
+abbrev pub partedIn : ℕ → Ends → List ℕ → List ℕ → List ℕ
+partedIn k e cs t = cut t (e .start) (e .long) ++ unitsIn t 0 k cs ++ cut t (e .stop) (e .short)
 
 abbrev pub Within : ℕ → ℕ → ℕ → List ℕ → Type 0
 Within long base k [] = Unit {0}

@@ -11,7 +11,28 @@ ghost use Rattle.laws.proofs.Spelling.{Below};
 ghost use Rattle.units.specs.Plans.{sided, stripOf};
 ghost use Rattle.units.specs.Totals.{elementsOf};
 ghost use Rattle.units.specs.Laid.{ready};
-ghost use Rattle.units.specs.Room.{sideAt, leftIn, rightIn, textEan};
+ghost use Rattle.units.specs.Room.{Within, partedIn, sideAt, leftIn, rightIn, textEan};
+
+// Where start and stop stand in a text of rows, and how long they are; the start has its parting space.
+pub struct Ends {
+    pub start: usize,
+    pub long: usize,
+    pub stop: usize,
+    pub short: usize,
+}
+
+// A start, units of k elements, their parting space among them, a stop.
+fn parted(room: &mut [u8; 339], text: &[u8], k: usize, ends: Ends, codes: [u8; 34], n: usize)
+    requires { ⌜ (length (now room) ≡ 339) × ((n ≤ 34) × (length (now text) ≤ 440)) ⌝ }
+    requires { ⌜ (ends .long + k * n + ends .short ≤ 339) × ((ends .start + ends .long ≤ length (now text)) × (ends .stop + ends .short ≤ length (now text))) ⌝ }
+    requires { ⌜ Within (length (now text)) 0 k (take n codes) ⌝ }
+    ensures { λ _. ⌜ length (now (room .exit)) ≡ 339 ⌝ }
+    ensures { λ _. ⌜ take (ends .long + k * n + ends .short) (now (room .exit)) ≡ partedIn k ends (take n codes) (now (text .entry)) ⌝ }
+{
+    let a = room::put(room, ElementPlace(0), text, ends.start, ends.long);
+    let b = room::put_units(room, a, text, 0, k, codes, 0, n);
+    room::put(room, b, text, ends.stop, ends.short);
+}
 
 // A star, the characters, a star, with a narrow space between each two.
 fn code39(room: &mut [u8; 339], codes: [u8; 34], n: usize)
@@ -20,9 +41,13 @@ fn code39(room: &mut [u8; 339], codes: [u8; 34], n: usize)
     ensures { λ _. ⌜ take (elementsOf 1 n) (now (room .exit)) ≡ stripOf 1 (take n codes) ⌝ }
 {
     let text = widths::code39();
-    let a = room::put(room, ElementPlace(0), &text, 430, 10);
-    let b = room::put_units(room, a, &text, 0, 10, codes, 0, n);
-    room::put(room, b, &text, 430, 9);
+    let ends = Ends {
+        start: 430,
+        long: 10,
+        stop: 430,
+        short: 9,
+    };
+    parted(room, &text, 10, ends, codes, n);
 }
 
 // The characters, which start and stop themselves, with a narrow space between each two.
@@ -44,9 +69,13 @@ fn industrial(room: &mut [u8; 339], codes: [u8; 34], n: usize)
     ensures { λ _. ⌜ take (elementsOf 4 n) (now (room .exit)) ≡ stripOf 4 (take n codes) ⌝ }
 {
     let text = widths::industrial();
-    let a = room::put(room, ElementPlace(0), &text, 100, 6);
-    let b = room::put_units(room, a, &text, 0, 10, codes, 0, n);
-    room::put(room, b, &text, 106, 5);
+    let ends = Ends {
+        start: 100,
+        long: 6,
+        stop: 106,
+        short: 5,
+    };
+    parted(room, &text, 10, ends, codes, n);
 }
 
 // The start, the pairs, the stop.
@@ -68,9 +97,13 @@ fn matrix(room: &mut [u8; 339], codes: [u8; 34], n: usize)
     ensures { λ _. ⌜ take (elementsOf 6 n) (now (room .exit)) ≡ stripOf 6 (take n codes) ⌝ }
 {
     let text = widths::matrix();
-    let a = room::put(room, ElementPlace(0), &text, 60, 6);
-    let b = room::put_units(room, a, &text, 0, 6, codes, 0, n);
-    room::put(room, b, &text, 60, 5);
+    let ends = Ends {
+        start: 60,
+        long: 6,
+        stop: 60,
+        short: 5,
+    };
+    parted(room, &text, 6, ends, codes, n);
 }
 
 // The set that EAN-13's unit i comes from, by the parities: 0 is odd, 1 is even; the right units have one set.

@@ -1,59 +1,38 @@
 -- `code39`: a star, the characters, a star, as the strip is put together (Parts).
 -- Assumes nothing.
 use mathlib.Core.Path.{_≡_}
-use mathlib.Core.List.{List}
-use Prim.Native.Nat.{_+_, _*_, _≤_}
+use Prim.Native.Nat.{_≤_}
 use native.Mathlib.Omega.{arith}
 use lib.ListN.{length, take}
 use borrow.Author.Needs.{needs}
 use Rattle.units.specs.Totals.{totals, elementsOf}
 use Rattle.units.specs.Room.{text39}
-use Rattle.units.proofs.Parts.{within-below, built, strip39}
+use Rattle.units.proofs.Parts.{within-below, ends39, strip39, built}
 use Rattle.units.proofs.Given.{few39, below39}
 use Rattle.units.proofs.layout.code39.Statement.{statement}
 use Rattle.units.proofs.layout.code39.Tie as tie
 
-put-units-requires : tie.Need-put-units-requires
-put-units-requires c κs =
-    let a = c .before .before .before .before .before .before in
-    let long : length (c .before .before .before .before .before .code39 .result) ≡ 440 = search needs in
+parted-requires : tie.Need-parted-requires
+parted-requires c κs =
+    let a = c .before .before .before in
+    let t = c .before .before .code39 .result in
+    let long : length t ≡ 440 = search needs in
     let small : a .args .n ≤ 32 = few39 (a .args .codes) (a .args .n) (search needs) (a .pre .1 .1) in (
-      (c .before .before .put .ensures .1 .0, (omega (arith, c .before .before .put .ensures .0), (omega arith, omega arith))),
-      within-below (length (c .before .before .before .before .before .code39 .result)) 0 10 43 (take (a .args .n) (a .args .codes)) (omega arith)
-          (below39 (take (a .args .n) (a .args .codes)) (a .pre .1 .1)),
-    )
-
-put-requires-2 : tie.Need-put-requires-2
-put-requires-2 c κs =
-    let a = c .before .before .before .before .before .before .before .before .before in
-    let long : length (c .before .before .before .before .before .before .before .before .code39 .result) ≡ 440 = search needs in
-    let small : a .args .n ≤ 32 = few39 (a .args .codes) (a .args .n) (search needs) (a .pre .1 .1) in (
-      c .before .before .put-units .ensures .1 .0,
-      (omega (arith, c .before .before .put-units .ensures .0, c .before .before .before .before .before .put .ensures .0), omega arith),
+      (a .pre .0, (a .pre .1 .0, omega arith)),
+      (
+        (omega arith, (omega arith, omega arith)),
+        within-below (length t) 0 10 43 (take (a .args .n) (a .args .codes)) (omega arith) (below39 (take (a .args .n) (a .args .codes)) (a .pre .1 .1)),
+      ),
     )
 
 returns : tie.Need-returns
 returns c =
-    let l = c .before .before .before in
-    let a = l .before .before .before .before .before .before .before in
-    let t = l .before .before .before .before .before .before .code39 in
-    let h = l .before .before .before .put in (
-      c .put2 .ensures .1 .0,
-      built 1 10 430 10 430 9 text39 (t .result) (take (a .args .n) (a .args .codes)) (h .last .0) (l .put-units .last .0) (c .put2 .last .0) (a .args .n)
-          (h .result .0) (l .put-units .result .0) (t .ensures) (strip39 (take (a .args .n) (a .args .codes)) (below39 (take (a .args .n) (a .args .codes)) (a .pre .1 .1)))
-          (h .ensures .1 .1) (h .ensures .0) (l .put-units .ensures .1 .1) (l .put-units .ensures .0) (c .put2 .ensures .1 .1)
-          (unfold elementsOf totals in omega (arith, l .put-units .ensures .0, h .ensures .0)),
+    let a = c .before .before .before .before in
+    let t = c .before .before .before .code39 in (
+      c .parted .ensures .0,
+      built 1 10 ends39 text39 (t .result) (take (a .args .n) (a .args .codes)) (c .parted .last .0) (a .args .n) (t .ensures)
+          (strip39 (take (a .args .n) (a .args .codes)) (below39 (take (a .args .n) (a .args .codes)) (a .pre .1 .1))) (unfold elementsOf totals in omega arith) (c .parted .ensures .1),
     )
 
 pub code39-spec : {M : Type 1} → statement M
-code39-spec =
-    tie.close
-    (tie.spec
-    (λ c κs. search needs)
-    (λ c. search needs)
-    (λ c κs. search needs)
-    (λ c. search needs)
-    put-units-requires
-    (λ c. search needs)
-    put-requires-2
-    returns)
+code39-spec = tie.close (tie.spec (λ c κs. search needs) (λ c. search needs) parted-requires returns)

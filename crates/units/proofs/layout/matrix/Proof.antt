@@ -1,59 +1,38 @@
 -- `matrix`: the start, the digits, the stop, as the strip is put together (Parts).
 -- Assumes nothing.
 use mathlib.Core.Path.{_≡_}
-use mathlib.Core.List.{List}
-use Prim.Native.Nat.{_+_, _*_, _≤_}
+use Prim.Native.Nat.{_≤_}
 use native.Mathlib.Omega.{arith}
 use lib.ListN.{length, take}
 use borrow.Author.Needs.{needs}
 use Rattle.units.specs.Totals.{totals, elementsOf}
 use Rattle.units.specs.Room.{textMatrix}
-use Rattle.units.proofs.Parts.{within-below, built, stripMatrix}
+use Rattle.units.proofs.Parts.{within-below, endsMatrix, stripMatrix, built}
 use Rattle.units.proofs.Given.{few-matrix, below-matrix}
 use Rattle.units.proofs.layout.matrix.Statement.{statement}
 use Rattle.units.proofs.layout.matrix.Tie as tie
 
-put-units-requires : tie.Need-put-units-requires
-put-units-requires c κs =
-    let a = c .before .before .before .before .before .before in
-    let long : length (c .before .before .before .before .before .matrix .result) ≡ 66 = search needs in
+parted-requires : tie.Need-parted-requires
+parted-requires c κs =
+    let a = c .before .before .before in
+    let t = c .before .before .matrix .result in
+    let long : length t ≡ 66 = search needs in
     let small : a .args .n ≤ 32 = few-matrix (a .args .codes) (a .args .n) (search needs) (a .pre .1 .1) in (
-      (c .before .before .put .ensures .1 .0, (omega (arith, c .before .before .put .ensures .0), (omega arith, omega arith))),
-      within-below (length (c .before .before .before .before .before .matrix .result)) 0 6 10 (take (a .args .n) (a .args .codes)) (omega arith)
-          (below-matrix (take (a .args .n) (a .args .codes)) (a .pre .1 .1)),
-    )
-
-put-requires-2 : tie.Need-put-requires-2
-put-requires-2 c κs =
-    let a = c .before .before .before .before .before .before .before .before .before in
-    let long : length (c .before .before .before .before .before .before .before .before .matrix .result) ≡ 66 = search needs in
-    let small : a .args .n ≤ 32 = few-matrix (a .args .codes) (a .args .n) (search needs) (a .pre .1 .1) in (
-      c .before .before .put-units .ensures .1 .0,
-      (omega (arith, c .before .before .put-units .ensures .0, c .before .before .before .before .before .put .ensures .0), omega arith),
+      (a .pre .0, (a .pre .1 .0, omega arith)),
+      (
+        (omega arith, (omega arith, omega arith)),
+        within-below (length t) 0 6 10 (take (a .args .n) (a .args .codes)) (omega arith) (below-matrix (take (a .args .n) (a .args .codes)) (a .pre .1 .1)),
+      ),
     )
 
 returns : tie.Need-returns
 returns c =
-    let l = c .before .before .before in
-    let a = l .before .before .before .before .before .before .before in
-    let t = l .before .before .before .before .before .before .matrix in
-    let h = l .before .before .before .put in (
-      c .put2 .ensures .1 .0,
-      built 6 6 60 6 60 5 textMatrix (t .result) (take (a .args .n) (a .args .codes)) (h .last .0) (l .put-units .last .0) (c .put2 .last .0) (a .args .n)
-          (h .result .0) (l .put-units .result .0) (t .ensures) (stripMatrix (take (a .args .n) (a .args .codes)) (below-matrix (take (a .args .n) (a .args .codes)) (a .pre .1 .1)))
-          (h .ensures .1 .1) (h .ensures .0) (l .put-units .ensures .1 .1) (l .put-units .ensures .0) (c .put2 .ensures .1 .1)
-          (unfold elementsOf totals in omega (arith, l .put-units .ensures .0, h .ensures .0)),
+    let a = c .before .before .before .before in
+    let t = c .before .before .before .matrix in (
+      c .parted .ensures .0,
+      built 6 6 endsMatrix textMatrix (t .result) (take (a .args .n) (a .args .codes)) (c .parted .last .0) (a .args .n) (t .ensures)
+          (stripMatrix (take (a .args .n) (a .args .codes)) (below-matrix (take (a .args .n) (a .args .codes)) (a .pre .1 .1))) (unfold elementsOf totals in omega arith) (c .parted .ensures .1),
     )
 
 pub matrix-spec : {M : Type 1} → statement M
-matrix-spec =
-    tie.close
-    (tie.spec
-    (λ c κs. search needs)
-    (λ c. search needs)
-    (λ c κs. search needs)
-    (λ c. search needs)
-    put-units-requires
-    (λ c. search needs)
-    put-requires-2
-    returns)
+matrix-spec = tie.close (tie.spec (λ c κs. search needs) (λ c. search needs) parted-requires returns)
