@@ -16,7 +16,7 @@ put-units-requires : tie.Need-put-units-requires
 put-units-requires c κs =
     let a = c .before .before in (
       (a .pre .0 .0, (omega (arith, a .pre .0 .1 .1 .0, a .pre .1), (omega (arith, a .pre .0 .1 .1 .0), omega (arith, a .pre .0 .1 .0)))),
-      within-below (length (a .args .text .now)) 80 4 10 (take (a .args .half) (drop (a .args .half) (a .args .codes))) (omega (arith, a .pre .0 .1 .0)) (a .pre .0 .1 .1 .1),
+      within-below (length (a .args .text .now)) _ 4 10 (take (a .args .half) (drop (a .args .half) (a .args .codes))) (omega (arith, a .pre .0 .1 .0)) (a .pre .0 .1 .1 .1),
     )
 
 put-requires : tie.Need-put-requires
