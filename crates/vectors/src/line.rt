@@ -1,108 +1,41 @@
-// One vector, one line: a call on a room filled with 9, and what it answered and left behind.
-use words::Answer;
+// A line of the output: a label, what a call answered, and what it left in the room, which was filled with FILL.
+use crate::part;
 use words::Said;
 
 // No element is so wide.
-const FILL: u8 = 9;
-
-// Draws data into the whole room.
-pub fn draw(name: &[u8], symbology: u8, mode: u8, text: &[u8]) {
-    draw_lent(name, symbology, mode, text, 339);
-}
-
-// Draws `count` bytes of a text from an index on; a text that has not so many prints no line.
-pub fn draw_part(name: &[u8], symbology: u8, mode: u8, text: &[u8], from: usize, count: usize) {
-    if from <= text.len() {
-        draw_start(name, symbology, mode, &text[from..], count);
-    }
-}
-
-fn draw_start(name: &[u8], symbology: u8, mode: u8, text: &[u8], count: usize) {
-    if count <= text.len() {
-        draw(name, symbology, mode, &text[0..count]);
-    }
-}
-
-// Draws data into the first `lent` bytes of the room.
-pub fn draw_lent(name: &[u8], symbology: u8, mode: u8, text: &[u8], lent: usize) {
-    let mut room = [FILL; 339];
-    let answer = call_lent(symbology, mode, text, &mut room, lent);
-    label(name, symbology, mode, text.len());
-    show(words::say(answer), &room);
-}
-
-fn call_lent(symbology: u8, mode: u8, text: &[u8], room: &mut [u8], lent: usize) -> Answer {
-    if lent < room.len() {
-        return strip::draw(symbology, mode, text, &mut room[0..lent]);
-    }
-    strip::draw(symbology, mode, text, room)
-}
-
-// Draws the first `count` bytes of a data field.
-pub fn draw_field(name: &[u8], kind: u8, mode: u8, count: usize, field: &[u8]) {
-    let mut room = [FILL; 339];
-    let answer = strip::draw_field(kind, mode, count, field, &mut room);
-    label(name, kind, mode, count);
-    show(words::say(answer), &room);
-}
-
-// Draws a job record whose data field begins with `text` and goes on with zeros.
-pub fn draw_record(name: &[u8], kind: u8, mode: u8, count: usize, text: &[u8]) {
-    let field = padded(text);
-    draw_field_of(name, kind, mode, count, &field, field_length(kind));
-}
-
-fn draw_field_of(name: &[u8], kind: u8, mode: u8, count: usize, field: &[u8], size: usize) {
-    if size <= field.len() {
-        draw_field(name, kind, mode, count, &field[0..size]);
-    }
-}
-
-// Document 01, "Job file": the length of a kind's data field.
-fn field_length(kind: u8) -> usize {
-    match kind {
-        3 => 34,
-        7 => 13,
-        8 => 8,
-        9 => 12,
-        _ => 32,
-    }
-}
-
-// The text with zeros behind it, as long as the longest field.
-fn padded(text: &[u8]) -> [u8; 34] {
-    let mut field = [0; 34];
-    let mut i = 0;
-    while i < 34 {
-        field[i] = byte_at(text, i);
-        i += 1;
-    }
-    field
-}
-
-fn byte_at(text: &[u8], i: usize) -> u8 {
-    if i < text.len() { text[i] } else { 0 }
-}
+pub const FILL: u8 = 9;
 
 // name/symbology/mode/count
-fn label(name: &[u8], symbology: u8, mode: u8, count: usize) {
-    io::write_all(1, name);
+pub fn label(vector: &[u8], symbology: u8, mode: u8, count: usize) {
+    write_name(vector);
+    write_part(symbology as u64);
+    write_part(mode as u64);
+    write_part(count as u64);
+}
+
+fn write_name(vector: &[u8]) {
+    let from = part::start(vector, 1);
+    let behind = part::start(vector, 2);
+    if from < behind {
+        if behind <= vector.len() {
+            io::write_all(1, &vector[from..behind - 1]);
+        }
+    }
+}
+
+fn write_part(n: u64) {
     io::write_all(1, b"/");
-    io::print_decimal(1, symbology as u64);
-    io::write_all(1, b"/");
-    io::print_decimal(1, mode as u64);
-    io::write_all(1, b"/");
-    io::print_decimal(1, count as u64);
+    io::print_decimal(1, n);
 }
 
 // The rest of the line.
-fn show(said: Said, room: &[u8; 339]) {
+pub fn show(said: Said, room: &[u8; 339]) {
     let count = said.count;
-    show_number(said.number as u64);
-    show_number(said.place as u64);
-    show_number(count as u64);
-    show_number(said.total as u64);
-    show_strip(count, room);
+    write_number(said.number as u64);
+    write_number(said.place as u64);
+    write_number(count as u64);
+    write_number(said.total as u64);
+    write_strip(count, room);
     if is_kept(room, count) {
         io::write_all(1, b" kept\n");
     } else {
@@ -110,18 +43,18 @@ fn show(said: Said, room: &[u8; 339]) {
     }
 }
 
-fn show_number(n: u64) {
+fn write_number(n: u64) {
     io::write_all(1, b" ");
     io::print_decimal(1, n);
 }
 
 // The first `count` widths of the room, or - if there are none.
-fn show_strip(count: usize, room: &[u8; 339]) {
+fn write_strip(count: usize, room: &[u8; 339]) {
     let text = digits(room);
+    io::write_all(1, b" ");
     if count == 0 {
-        io::write_all(1, b" -");
+        io::write_all(1, b"-");
     } else {
-        io::write_all(1, b" ");
         write_first(&text, count);
     }
 }
