@@ -6,15 +6,14 @@
 -- Assumes nothing.
 use mathlib.Core.Path.{_≡_, refl, sym, ap, _∙_}
 use mathlib.Core.Bool.{Bool, true, false}
-use mathlib.Core.List.{List, _++_}
+use mathlib.Core.List.{List}
 use Prim.Native.Nat.{ℕ, _≤_}
 use native.Mathlib.Omega.{arith}
 use lib.Dec.{ltb}
-use lib.ListN.{length, take, drop}
+use lib.ListN.{length, take}
 use borrow.Author.Tests.{le-leb}
 use Rattle.laws.specs.Search.{pick}
 use Rattle.words.specs.declared.Answer.{Answer}
-use Rattle.rows.specs.declared.row.Row.{Row}
 use Rattle.rows.specs.declared.drawing.Rowed.{Rowed}
 use Rattle.rows.specs.declared.drawing.Verdict.the-variants.{Given as given-row, Turned}
 use Rattle.rows.specs.Rows.{Outcome, gives, turned, rowOfField, rowOf}

@@ -3,21 +3,20 @@
 --   field-data    so its row is that of the data
 --
 -- Assumes nothing.
-use mathlib.Core.Path.{_≡_, refl, sym, ap, _∙_}
-use mathlib.Core.Bool.{Bool, true, false, _&&_, not}
-use mathlib.Core.List.{List, []}
-use Prim.Native.Nat.{ℕ, _+_, _≤_}
+use mathlib.Core.Path.{_≡_, refl}
+use mathlib.Core.Bool.{true, false, _&&_, not}
+use mathlib.Core.List.{List}
+use Prim.Native.Nat.{ℕ, _+_}
 use native.Mathlib.Omega.{arith}
-use lib.Dec.{leb, ltb}
+use lib.Dec.{leb}
 use lib.ListN.{length, take, drop}
 use lib.Seq.{length-take-le, take-all, drop-length}
 use borrow.Author.Tests.{leb-true, le-leb, not-false}
-use Rattle.laws.specs.Search.{pick}
 use Rattle.laws.proofs.Finite.{both-left, both-right}
 use Rattle.words.specs.declared.Answer.the-variants.{NoSymbology, NoMode, BadCount, FieldNotZero}
 use Rattle.rows.specs.Limits.{offered, holds}
 use Rattle.rows.specs.Symbologies.{symbologyOf}
-use Rattle.rows.specs.Rows.{Outcome, gives, turned, dataPlace, nonzero, unclean, drawnRow, rowOfField, rowOf}
+use Rattle.rows.specs.Rows.{gives, dataPlace, nonzero, unclean, drawnRow, rowOfField, rowOf}
 use Rattle.rows.proofs.Undo.{past-turned}
 
 -- what a field that is drawn passed

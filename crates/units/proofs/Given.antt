@@ -1,8 +1,8 @@
 -- What a row that is ready says of the array that holds it: how many characters, and of which set.
 --
 --   count         its count is one that is drawn
---   few39 ..      at most 32 characters
---   below39 ..    each of its set
+--   few-chars     at most 32 characters, where its counts end there
+--   below39, below-digits    each of its set
 --   Either39, either39    Code 39, plain or full ASCII: the two draw alike
 --   even-count    Interleaved: an even number
 --   Lettered, lettered-row    Codabar: a letter, others, a letter
@@ -14,7 +14,7 @@ use mathlib.Core.Bool.{Bool, true, false, _&&_}
 use mathlib.Core.List.{List, [], _∷_, _++_}
 use Prim.Native.Nat.{ℕ, suc, _+_, _*_, _-_, _/_, _<_, _≤_}
 use native.Mathlib.Omega.{arith}
-use lib.Dec.{lit≤}
+use lib.Dec.{lit<, lit≤}
 use lib.ListN.{length, getD, take}
 use lib.Seq.{length-take-le, take-suc}
 use borrow.Author.Tests.{ltb-true}
@@ -29,7 +29,7 @@ use Rattle.units.specs.Plans.{plans, planOf, unitsOf, stripOf}
 use Rattle.units.specs.Totals.{totals, elementsOf}
 use Rattle.units.specs.Laid.{counted, allowed, allAllowed, ready}
 use Rattle.units.specs.Room.{cut, unitsIn, Within, pairsIn, textCodabar, textInterleaved}
-use Rattle.units.proofs.Counted.{counted-39, counted-codabar, counted-industrial, counted-matrix, counted-even}
+use Rattle.units.proofs.Counted.{counted-codabar, counted-even}
 use Rattle.units.proofs.Ready.{ready-counted, ready-allowed, ready-below, letter-high, letter-low}
 use Rattle.units.proofs.Putting.{follow, three}
 use Rattle.units.proofs.Parts.{within-below, stripCodabar, stripInterleaved}
@@ -38,8 +38,8 @@ use Rattle.units.proofs.Parts.{within-below, stripCodabar, stripInterle
 pub count : (s : ℕ) (codes : List ℕ) (n : ℕ) → n ≤ length codes → ready s (take n codes) ≡ true → counted s n ≡ true
 count s codes n h e = rw (length-take-le n codes h) at (ready-counted s (take n codes) e)
 
-pub few39 : (codes : List ℕ) (n : ℕ) → n ≤ length codes → ready 1 (take n codes) ≡ true → n ≤ 32
-few39 codes n h e = counted-39 n (count 1 codes n h e) .1
+pub few-chars : (s : ℕ) → ((n : ℕ) → counted s n ≡ true → (0 < n) × (n ≤ 32)) → (codes : List ℕ) (n : ℕ) → n ≤ length codes → ready s (take n codes) ≡ true → n ≤ 32
+few-chars s k codes n h e = k n (count s codes n h e) .1
 
 pub below39 : (r : List ℕ) → ready 1 r ≡ true → Below 43 r
 unfolding symbologyOf symbologies alphabet39 chars39
@@ -65,31 +65,22 @@ either39 n r =
     from-at (λ s. Either39 s n r) 1 2
     (record { ready39 = λ e. e; elements39 = refl; strip39 = refl }, (record { ready39 = λ e. sym (full-ready r) ∙ e; elements39 = refl; strip39 = refl }, tt))
 
-pub few-industrial : (codes : List ℕ) (n : ℕ) → n ≤ length codes → ready 4 (take n codes) ≡ true → n ≤ 32
-few-industrial codes n h e = counted-industrial n (count 4 codes n h e) .1
-
-pub below-industrial : (r : List ℕ) → ready 4 r ≡ true → Below 10 r
+-- Industrial to UPC-A
+pub below-digits : (s : ℕ) → 4 ≤ s → s < 10 → (r : List ℕ) → ready s r ≡ true → Below 10 r
 unfolding symbologyOf symbologies alphabetDigits table44
-below-industrial r e = ready-below 4 r refl e
-
-pub few-matrix : (codes : List ℕ) (n : ℕ) → n ≤ length codes → ready 6 (take n codes) ≡ true → n ≤ 32
-few-matrix codes n h e = counted-matrix n (count 6 codes n h e) .1
-
-pub below-matrix : (r : List ℕ) → ready 6 r ≡ true → Below 10 r
-unfolding symbologyOf symbologies alphabetDigits table44
-below-matrix r e = ready-below 6 r refl e
+below-digits =
+    from-at (λ s. (r : List ℕ) → ready s r ≡ true → Below 10 r) 4 6 (
+      λ r. ready-below 4 r refl,
+      (λ r. ready-below 5 r refl, (λ r. ready-below 6 r refl, (λ r. ready-below 7 r refl, (λ r. ready-below 8 r refl, (λ r. ready-below 9 r refl, tt))))),
+    )
 
 -- ---- Interleaved
 
 pub even-count : (codes : List ℕ) (n : ℕ) → n ≤ length codes → ready 5 (take n codes) ≡ true → n ≡ 2 * (n / 2)
 even-count codes n h e = counted-even n (count 5 codes n h e)
 
-below-pairs : (r : List ℕ) → ready 5 r ≡ true → Below 10 r
-unfolding symbologyOf symbologies alphabetDigits table44
-below-pairs r e = ready-below 5 r refl e
-
 pub pairs-within : (codes : List ℕ) (n : ℕ) → n ≤ length codes → ready 5 (take n codes) ≡ true → Within 57 0 5 (take (2 * (n / 2)) codes)
-pairs-within codes n h e = rw (← even-count codes n h e) (within-below 57 0 5 10 (take n codes) (lit≤ tt) (below-pairs (take n codes) e))
+pairs-within codes n h e = rw (← even-count codes n h e) (within-below 57 0 5 10 (take n codes) (lit≤ tt) (below-digits 5 (lit≤ tt) (lit< tt) (take n codes) e))
 
 pub interleaved-built : (codes t e₁ e₂ e₃ : List ℕ) (n a b : ℕ) → n ≤ length codes → ready 5 (take n codes) ≡ true → t ≡ textInterleaved
     → take 4 e₁ ≡ cut t 50 4 → a ≡ 4 → take (a + 10 * (n / 2)) e₂ ≡ take a e₁ ++ pairsIn t (take (2 * (n / 2)) codes) → b ≡ a + 10 * (n / 2)
@@ -102,7 +93,7 @@ interleaved-built codes t e₁ e₂ e₃ n a b h e q x d y g w =
     three e₁ e₂ e₃ (cut t 50 4) (pairsIn t (take n codes)) (cut t 54 3) 4 a b (10 * (n / 2)) 3 (elementsOf 5 n) x d
     (y ∙ ap (λ (zs : List ℕ). take a e₁ ++ zs) p) g w (omega arith)
     ∙ ap (λ (u : List ℕ). cut u 50 4 ++ pairsIn u (take n codes) ++ cut u 54 3) q
-    ∙ sym (stripInterleaved (take n codes) (rw l even) (below-pairs (take n codes) e))
+    ∙ sym (stripInterleaved (take n codes) (rw l even) (below-digits 5 (lit≤ tt) (lit< tt) (take n codes) e))
 
 -- ---- Codabar
 

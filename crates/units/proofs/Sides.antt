@@ -11,7 +11,7 @@
 use mathlib.Core.Path.{_≡_, refl, sym, ap, _∙_}
 use mathlib.Core.Bool.{Bool, true, false}
 use mathlib.Core.List.{List, [], _∷_, _++_}
-use Prim.Native.Nat.{ℕ, zero, suc, _+_, _*_, _-_, _/_, _%_, _^_, _<_, _≤_}
+use Prim.Native.Nat.{ℕ, zero, suc, _+_, _*_, _-_, _/_, _^_, _<_, _≤_}
 use native.Mathlib.Omega.{arith}
 use native.Mathlib.Nat.{mod-lt, le-of-suc-le-suc, not-suc-le-zero}
 use native.Mathlib.Numerals.{add-one}
@@ -24,18 +24,16 @@ use Rattle.laws.specs.Units.{free, strip}
 use Rattle.laws.specs.Shapes.{shape}
 use Rattle.laws.proofs.Spelling.{Below, below-at}
 use Rattle.tables.specs.Bits.{bit}
-use Rattle.tables.specs.TwoOfFive.{table44, alphabetDigits}
 use Rattle.tables.specs.Ean.{oddRows, leftRows, paritiesOf}
-use Rattle.rows.specs.Symbologies.{symbologies, symbologyOf}
 use Rattle.units.specs.Plans.{halves, sides, sided, plans, planOf, unitsOf, stripOf}
 use Rattle.units.specs.Totals.{totals, elementsOf}
 use Rattle.units.specs.Laid.{ready}
 use Rattle.units.specs.Room.{sideAt, leftIn, rightIn, textEan}
 use Rattle.units.proofs.Counted.{counted-ean13, counted-ean8, counted-upc}
-use Rattle.units.proofs.Ready.{ready-below, below-split}
+use Rattle.units.proofs.Ready.{below-split}
 use Rattle.units.proofs.Putting.{more}
 use Rattle.units.proofs.Parts.{Shows, shows-left, shows-odd, two-halves}
-use Rattle.units.proofs.Given.{count}
+use Rattle.units.proofs.Given.{count, below-digits}
 
 -- ---- EAN-13's units
 
@@ -146,22 +144,10 @@ module _ (units : List ℕ) (half : ℕ) (h : half + half ≤ length units) wher
   below-back : (n : ℕ) → Below n (take (half + half) units) → Below n (take half (drop half units))
   below-back n b = rw (drop-at (take half units) (take half (drop half units)) half (front-long units half h)) at (below-split n half (take half units ++ take half (drop half units)) (rw (split units half h) at b) .1)
 
-below7 : (r : List ℕ) → ready 7 r ≡ true → Below 10 r
-unfolding symbologyOf symbologies alphabetDigits table44
-below7 r e = ready-below 7 r refl e
-
-below8 : (r : List ℕ) → ready 8 r ≡ true → Below 10 r
-unfolding symbologyOf symbologies alphabetDigits table44
-below8 r e = ready-below 8 r refl e
-
-below9 : (r : List ℕ) → ready 9 r ≡ true → Below 10 r
-unfolding symbologyOf symbologies alphabetDigits table44
-below9 r e = ready-below 9 r refl e
-
 pub digits13 : (codes : List ℕ) (n : ℕ) → n ≤ length codes → ready 7 (take n codes) ≡ true → Below 10 (take 13 codes)
 digits13 codes n h e =
     let n13 : n ≡ 13 = counted-ean13 n (count 7 codes n h e) in
-    rw n13 at (below7 (take n codes) e)
+    rw n13 at (below-digits 7 (lit≤ tt) (lit< tt) (take n codes) e)
 
 pub halves13 : (codes units : List ℕ) (n : ℕ) → n ≤ length codes → 12 ≤ length units → ready 7 (take n codes) ≡ true → take 12 units ≡ sided (take 13 codes)
     → Halves 7 n 6 (take n codes) units
@@ -197,10 +183,10 @@ pub halves8 : (codes : List ℕ) (n : ℕ) → n ≤ length codes → ready 8 (t
 unfolding stripOf unitsOf planOf plans elementsOf totals
 halves8 codes n h e =
     let n8 : n ≡ 8 = counted-ean8 n (count 8 codes n h e) in
-    plain-halves 8 n 4 codes (omega arith) n8 (below8 (take n codes) e) refl refl
+    plain-halves 8 n 4 codes (omega arith) n8 (below-digits 8 (lit≤ tt) (lit< tt) (take n codes) e) refl refl
 
 pub halves12 : (codes : List ℕ) (n : ℕ) → n ≤ length codes → ready 9 (take n codes) ≡ true → Halves 9 n 6 (take n codes) codes
 unfolding stripOf unitsOf planOf plans elementsOf totals
 halves12 codes n h e =
     let n12 : n ≡ 12 = counted-upc n (count 9 codes n h e) in
-    plain-halves 9 n 6 codes (omega arith) n12 (below9 (take n codes) e) refl refl
+    plain-halves 9 n 6 codes (omega arith) n12 (below-digits 9 (lit≤ tt) (lit< tt) (take n codes) e) refl refl

@@ -1,6 +1,6 @@
 -- `lay`: what became of the row, in the words that the crates share.
 -- Assumes nothing.
-use mathlib.Core.Path.{_≡_, sym, ap, _∙_}
+use mathlib.Core.Path.{sym, ap, _∙_}
 use borrow.Author.Needs.{needs}
 use Rattle.strip.specs.Drawing.{answerOf}
 use Rattle.strip.proofs.lay.Statement.{statement}

@@ -1,14 +1,10 @@
 -- `draw_row`: the tests in their order, the strip in the room, and its first elements copied.
 -- Assumes nothing.
 use mathlib.Core.Path.{_≡_, refl, sym}
-use mathlib.Core.Bool.{true}
-use Prim.Native.Nat.{_≤_}
 use native.Mathlib.Omega.{arith}
-use lib.ListN.{length, take, length-take}
+use lib.ListN.{length, length-take}
 use lib.Seq.{length-take-le}
 use borrow.Author.Needs.{needs}
-use Rattle.units.specs.Totals.{elementsOf}
-use Rattle.units.specs.Laid.{ready}
 use Rattle.units.proofs.Drawn.{too-many, not-ready, is-ready, is-counted, is-few, too-short, laid}
 use Rattle.units.proofs.draw_row.Statement.{statement}
 use Rattle.units.proofs.draw_row.Tie as tie

@@ -1,9 +1,8 @@
 -- `codabar`: the characters with their parting spaces and the last without one, as the strip is put together (Parts).
 -- Assumes nothing.
 use mathlib.Core.Path.{_≡_}
-use Prim.Native.Nat.{_+_, _*_, _-_, _≤_}
 use native.Mathlib.Omega.{arith}
-use lib.ListN.{length, getD}
+use lib.ListN.{length}
 use borrow.Author.Needs.{needs}
 use Rattle.units.proofs.Given.{long-codabar, letters-within, codabar-built}
 use Rattle.units.proofs.layout.codabar.Statement.{statement}

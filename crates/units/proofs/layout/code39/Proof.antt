@@ -8,7 +8,8 @@ use borrow.Author.Needs.{needs}
 use Rattle.units.specs.Totals.{totals, elementsOf}
 use Rattle.units.specs.Room.{text39}
 use Rattle.units.proofs.Parts.{within-below, ends39, strip39, built}
-use Rattle.units.proofs.Given.{few39, below39}
+use Rattle.units.proofs.Counted.{counted-39}
+use Rattle.units.proofs.Given.{few-chars, below39}
 use Rattle.units.proofs.layout.code39.Statement.{statement}
 use Rattle.units.proofs.layout.code39.Tie as tie
 
@@ -17,7 +18,7 @@ parted-requires c κs =
     let a = c .before .before .before in
     let t = c .before .before .code39 .result in
     let long : length t ≡ 440 = search needs in
-    let small : a .args .n ≤ 32 = few39 (a .args .codes) (a .args .n) (search needs) (a .pre .1 .1) in (
+    let small : a .args .n ≤ 32 = few-chars 1 counted-39 (a .args .codes) (a .args .n) (search needs) (a .pre .1 .1) in (
       (a .pre .0, (a .pre .1 .0, omega arith)),
       (
         (omega arith, (omega arith, omega arith)),

@@ -1,12 +1,12 @@
 -- `halves`: the right half behind the left.
 -- Assumes nothing.
-use mathlib.Core.Path.{_≡_, refl, ap, _∙_}
+use mathlib.Core.Path.{_≡_, ap, _∙_}
 use mathlib.Core.List.{List, _++_}
-use Prim.Native.Nat.{ℕ, _+_, _*_, _≤_}
+use Prim.Native.Nat.{ℕ, _+_, _*_}
 use native.Mathlib.Omega.{arith}
 use lib.ListN.{length, take, drop}
 use borrow.Author.Needs.{needs}
-use Rattle.units.specs.Room.{leftIn, rightIn, textEan}
+use Rattle.units.specs.Room.{leftIn, rightIn}
 use Rattle.units.proofs.Putting.{follow}
 use Rattle.units.proofs.layout.halves.Statement.{statement}
 use Rattle.units.proofs.layout.halves.Tie as tie

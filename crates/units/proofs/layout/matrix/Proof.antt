@@ -3,12 +3,14 @@
 use mathlib.Core.Path.{_≡_}
 use Prim.Native.Nat.{_≤_}
 use native.Mathlib.Omega.{arith}
+use lib.Dec.{lit<, lit≤}
 use lib.ListN.{length, take}
 use borrow.Author.Needs.{needs}
 use Rattle.units.specs.Totals.{totals, elementsOf}
 use Rattle.units.specs.Room.{textMatrix}
 use Rattle.units.proofs.Parts.{within-below, endsMatrix, stripMatrix, built}
-use Rattle.units.proofs.Given.{few-matrix, below-matrix}
+use Rattle.units.proofs.Counted.{counted-matrix}
+use Rattle.units.proofs.Given.{few-chars, below-digits}
 use Rattle.units.proofs.layout.matrix.Statement.{statement}
 use Rattle.units.proofs.layout.matrix.Tie as tie
 
@@ -17,11 +19,11 @@ parted-requires c κs =
     let a = c .before .before .before in
     let t = c .before .before .matrix .result in
     let long : length t ≡ 66 = search needs in
-    let small : a .args .n ≤ 32 = few-matrix (a .args .codes) (a .args .n) (search needs) (a .pre .1 .1) in (
+    let small : a .args .n ≤ 32 = few-chars 6 counted-matrix (a .args .codes) (a .args .n) (search needs) (a .pre .1 .1) in (
       (a .pre .0, (a .pre .1 .0, omega arith)),
       (
         (omega arith, (omega arith, omega arith)),
-        within-below (length t) 0 6 10 (take (a .args .n) (a .args .codes)) (omega arith) (below-matrix (take (a .args .n) (a .args .codes)) (a .pre .1 .1)),
+        within-below (length t) 0 6 10 (take (a .args .n) (a .args .codes)) (omega arith) (below-digits 6 (lit≤ tt) (lit< tt) (take (a .args .n) (a .args .codes)) (a .pre .1 .1)),
       ),
     )
 
@@ -31,7 +33,7 @@ returns c =
     let t = c .before .before .before .matrix in (
       c .parted .ensures .0,
       built 6 6 endsMatrix textMatrix (t .result) (take (a .args .n) (a .args .codes)) (c .parted .last .0) (a .args .n) (t .ensures)
-          (stripMatrix (take (a .args .n) (a .args .codes)) (below-matrix (take (a .args .n) (a .args .codes)) (a .pre .1 .1))) (unfold elementsOf totals in omega arith) (c .parted .ensures .1),
+          (stripMatrix (take (a .args .n) (a .args .codes)) (below-digits 6 (lit≤ tt) (lit< tt) (take (a .args .n) (a .args .codes)) (a .pre .1 .1))) (unfold elementsOf totals in omega arith) (c .parted .ensures .1),
     )
 
 pub matrix-spec : {M : Type 1} → statement M

@@ -1,11 +1,10 @@
 -- `right`: the units, a guard, behind what stands there.
 -- Assumes nothing.
-use mathlib.Core.Path.{_≡_, refl, ap, _∙_}
+use mathlib.Core.Path.{_≡_, ap, _∙_}
 use mathlib.Core.List.{_++_, append-assoc}
-use Prim.Native.Nat.{ℕ, _+_, _*_, _≤_}
+use Prim.Native.Nat.{ℕ, _+_, _*_}
 use native.Mathlib.Omega.{arith}
 use lib.ListN.{length, take, drop}
-use borrow.Author.Needs.{needs}
 use Rattle.units.specs.Room.{cut, unitsIn}
 use Rattle.units.proofs.Putting.{follow}
 use Rattle.units.proofs.Parts.{within-below}

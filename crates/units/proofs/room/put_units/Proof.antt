@@ -1,14 +1,14 @@
 -- `put_units`: the room's front grows by the row of one character a turn.
 -- Assumes nothing.
-use mathlib.Core.Path.{_≡_, refl, sym, ap, _∙_}
+use mathlib.Core.Path.{_≡_, ap}
 use mathlib.Core.List.{_++_}
-use Prim.Native.Nat.{ℕ, _+_, _*_, _-_, _<_, _≤_}
+use Prim.Native.Nat.{ℕ, _+_, _*_, _-_, _≤_}
 use native.Mathlib.Omega.{arith}
 use native.Mathlib.Nat.{mul-suc, mul-zero}
 use native.Mathlib.Numerals.{add-one}
-use lib.ListN.{length, getD, take, drop}
+use lib.ListN.{length, take, drop}
 use borrow.Author.Needs.{needs}
-use Rattle.units.specs.Room.{cut, unitsIn}
+use Rattle.units.specs.Room.{unitsIn}
 use Rattle.units.proofs.Putting.{room-left, row-ends, units-start, units-more, units-end}
 use Rattle.units.proofs.room.put_units.Statement.{statement}
 use Rattle.units.proofs.room.put_units.Tie as tie
