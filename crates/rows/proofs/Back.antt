@@ -4,8 +4,9 @@
 --   plain-stopped, plain-given    mode 0 by the test `bad < n`: 12, or the bytes
 --   read-stopped, read-wrong, read-first, read-second    modes 1 and 2: 12, 7, the bytes and the check, or the bytes
 --   same-count               n characters are n - 1 and the check
---   not-known, not-offered, not-held, not-even, all-passed    1, 2, 9, or the row is read
---   fits                     a row that passes has a mode, and 1 to 34 characters
+--   not-known, not-offered, not-held, not-even, all-passed    1, 2, 9, or the count passes
+--   count-turned, count-read    the row of a count that does not pass, and of one that does
+--   count-given, fits        a count that passes is drawable, in a mode that is offered, and 1 to 34
 --   given-by, turned-by      the outcome that a verdict tells: at most 34 bytes, or an answer
 --   short, enough, copied    8, or the bytes in the lent buffer
 --
@@ -19,8 +20,10 @@ use lib.Dec.{eqb}
 use lib.ListN.{length, getD, take, drop, length-append, length-take}
 use lib.Seq.{take-suc, length-take-le, take-length}
 use borrow.Author.Tests.{eq-eqb, ne-eqb, lt-ltb, le-ltb, not-true, not-false}
+use Rattle.laws.specs.Search.{pick}
 use Rattle.laws.specs.Units.{Reading, found, stopped}
 use Rattle.laws.specs.Spelling.{Coder, unspell}
+use Rattle.laws.proofs.Finite.{both-left}
 use Rattle.laws.proofs.Spelling.{unspell-stops, unspell-short}
 use Rattle.words.specs.declared.Answer.{Answer}
 use Rattle.words.specs.declared.Answer.the-variants.{NoSymbology, NoMode, BadCheck, BadLength, NoExpansion, ShortForData}
@@ -35,12 +38,13 @@ use Rattle.rows.specs.Limits.{offered, holds}
 use Rattle.rows.specs.Checks.{front, final, checkOf, passes}
 use Rattle.rows.specs.Symbologies.{Symbology, symbologyOf}
 use Rattle.rows.specs.Rows.{Outcome, gives, turned, charPlace, odd, headOf, kept, added, drawable, unspelled, readRow, dataOfCount}
-use Rattle.rows.specs.Held.{rowIn, pushed, spelledIn, told, dataOfRow, byteCount, handedOf, written}
+use Rattle.rows.specs.Held.{rowIn, pushed, spelledIn, told, judge, judgedCount, dataOfRow, byteCount, handedOf, written}
 use Rattle.rows.proofs.Ends.{front-snoc, final-snoc}
 use Rattle.rows.proofs.Loops.{push-in, take-pad}
 use Rattle.rows.proofs.Undo.{past-turned, Undrew, undrew, undrawn}
 use Rattle.rows.proofs.Readings.{Whole, stop-from, whole-from}
-use Rattle.rows.proofs.Orders.{told-first, told-next, known-is, offered-is, holds-is, in-mode, in-bounds, behind-2}
+use Rattle.rows.proofs.Orders.{known-is, offered-is, holds-is, in-bounds}
+use Rattle.rows.proofs.Proper.{proper}
 
 -- ---- a reading as the code holds it
 
@@ -139,38 +143,79 @@ and-both : (a b : Bool) → a ≡ true → b ≡ false → (a && not b) ≡ true
 and-both a b e f = rw (e, f)
 
 -- as the code makes them: each test, what the call behind it promised, and how it came out
-module _ (s m : ℕ) (row : Row) (l : Limits) (e : l ≡ symbologyOf s .limits) where
-  pub not-known : not (l .known) ≡ true → told (turned NoSymbology) ≡ told (dataOfRow s m row)
-  unfolding dataOfRow dataOfCount
-  not-known h = told-first _ NoSymbology _ (known-is s m l e true h)
+module _ (s m n : ℕ) (l : Limits) (e : l ≡ symbologyOf s .limits) where
+  pub not-known : not (l .known) ≡ true → Turned NoSymbology ≡ judgedCount s m n
+  unfolding judgedCount
+  not-known h = rw (known-is s m l e true h)
 
   module _ (k : not (l .known) ≡ false) (b : Bool) (o : b ≡ offered l m) where
-    pub not-offered : not b ≡ true → told (turned NoMode) ≡ told (dataOfRow s m row)
-    unfolding dataOfRow dataOfCount
-    not-offered h = told-next _ NoSymbology _ _ (known-is s m l e false k) (told-first _ NoMode _ (offered-is s m l e b true o h))
+    pub not-offered : not b ≡ true → Turned NoMode ≡ judgedCount s m n
+    unfolding judgedCount
+    not-offered h = rw (known-is s m l e false k, offered-is s m l e b true o h)
 
-    module _ (t : not b ≡ false) (n : ℕ) (c : n ≡ row .len - added m) (h : Bool) (f : h ≡ holds l m n) where
-      held-is : (t : Bool) → h ≡ t → holds (symbologyOf s .limits) m (row .len - added m) ≡ t
-      held-is t q = rw c at (holds-is s m l e h t n f q)
+    module _ (t : not b ≡ false) (c : ℕ) (d : c ≡ n - added m) (h : Bool) (f : h ≡ holds l m c) where
+      held-is : (t : Bool) → h ≡ t → holds (symbologyOf s .limits) m (n - added m) ≡ t
+      held-is t q = rw d at (holds-is s m l e h t c f q)
 
-      undrawable : drawable (symbologyOf s) m (row .len) ≡ false → told (turned BadLength) ≡ told (dataOfRow s m row)
-      unfolding dataOfRow dataOfCount
-      undrawable q = behind-2 s m l e k b o t _ _ (told-first _ BadLength _ (ap not q))
+      by-count : (can : Bool) → drawable (symbologyOf s) m n ≡ can → pick (not can) (Turned BadLength) Given ≡ judgedCount s m n
+      unfolding judgedCount
+      by-count can q = rw (known-is s m l e false k, offered-is s m l e b false o t, q)
 
-      pub not-held : not h ≡ true → told (turned BadLength) ≡ told (dataOfRow s m row)
-      not-held q = undrawable (and-left _ (not (odd (symbologyOf s) (row .len))) (held-is false (not-true _ q)))
+      pub not-held : not h ≡ true → Turned BadLength ≡ judgedCount s m n
+      not-held q = by-count false (and-left _ (not (odd (symbologyOf s) n)) (held-is false (not-true _ q)))
 
-      module _ (g : not h ≡ false) where
-        pub fits : (m < 3) × ((0 < row .len) × (row .len ≤ 34))
-        fits = let b : (0 < n) × (n + added m ≤ 34) = in-bounds s m l e b h n o t f g in (in-mode s m l e _ o t, (omega (arith, b .0), omega (arith, b .1)))
+      module _ (g : not h ≡ false) (v : Bool) (w : v ≡ odd (symbologyOf s) n) where
+        pub not-even : v ≡ true → Turned BadLength ≡ judgedCount s m n
+        not-even q = by-count false (and-right (holds (symbologyOf s .limits) m (n - added m)) (odd (symbologyOf s) n) (sym w ∙ q))
 
-        module _ (v : Bool) (w : v ≡ odd (symbologyOf s) (row .len)) where
-          pub not-even : v ≡ true → told (turned BadLength) ≡ told (dataOfRow s m row)
-          not-even q = undrawable (and-right (holds (symbologyOf s .limits) m (row .len - added m)) (odd (symbologyOf s) (row .len)) (sym w ∙ q))
+        pub all-passed : v ≡ false → Given ≡ judgedCount s m n
+        all-passed q = by-count true (and-both _ _ (held-is true (not-false _ g)) (sym w ∙ q))
 
-          pub all-passed : v ≡ false → told (readRow (symbologyOf s) m (take (row .len) (row .codes))) ≡ told (dataOfRow s m row)
-          unfolding dataOfRow dataOfCount
-          all-passed q = behind-2 s m l e k b o t _ _ (told-next _ BadLength _ _ (ap not (and-both _ _ (held-is true (not-false _ g)) (sym w ∙ q))) refl)
+judge-turned : (a b c : Bool) (x : Answer) (z : Outcome) → judge a b c ≡ Turned x
+    → told (turned x) ≡ told (pick a (turned NoSymbology) (pick b (turned NoMode) (pick c (turned BadLength) z)))
+judge-turned true b c x z e = let q : NoSymbology ≡ x = cc in rw q
+judge-turned false true c x z e = let q : NoMode ≡ x = cc in rw q
+judge-turned false false true x z e = let q : BadLength ≡ x = cc in rw q
+judge-turned false false false x z e = let q : _≡_ {A = ℕ} 0 1 = cc in absurd (omega arith)
+
+judge-given : (a b c : Bool) → judge a b c ≡ Given → (a ≡ false) × ((b ≡ false) × (c ≡ false))
+judge-given true b c e = let q : _≡_ {A = ℕ} 0 1 = cc in absurd (omega arith)
+judge-given false true c e = let q : _≡_ {A = ℕ} 0 1 = cc in absurd (omega arith)
+judge-given false false true e = let q : _≡_ {A = ℕ} 0 1 = cc in absurd (omega arith)
+judge-given false false false e = (refl, (refl, refl))
+
+pub count-turned : (s m : ℕ) (row : Row) (x : Answer) → judgedCount s m (row .len) ≡ Turned x → told (turned x) ≡ told (dataOfRow s m row)
+unfolding judgedCount dataOfRow dataOfCount
+count-turned s m row x e =
+    judge-turned (not (symbologyOf s .limits .known)) (not (offered (symbologyOf s .limits) m)) (not (drawable (symbologyOf s) m (row .len))) x (readRow (symbologyOf s) m (take (row .len) (row .codes))) e
+
+-- what a count that passes is
+pub record Drawable (s m n : ℕ) : Type 0 where
+  pub known : symbologyOf s .limits .known ≡ true
+  pub offers : offered (symbologyOf s .limits) m ≡ true
+  pub can : drawable (symbologyOf s) m n ≡ true
+
+pub count-given : (s m n : ℕ) → judgedCount s m n ≡ Given → Drawable s m n
+unfolding judgedCount
+count-given s m n e =
+    let j : (not (symbologyOf s .limits .known) ≡ false) × ((not (offered (symbologyOf s .limits) m) ≡ false) × (not (drawable (symbologyOf s) m n) ≡ false))
+    = judge-given (not (symbologyOf s .limits .known)) (not (offered (symbologyOf s .limits) m)) (not (drawable (symbologyOf s) m n)) e in
+    record { known = not-false _ (j .0); offers = not-false _ (j .1 .0); can = not-false _ (j .1 .1) }
+
+pub fits : (s m n : ℕ) → judgedCount s m n ≡ Given → (m < 3) × ((0 < n) × (n ≤ 34))
+fits s m n e =
+    let d : Drawable s m n = count-given s m n e in
+    let h : holds (symbologyOf s .limits) m (n - added m) ≡ true = both-left _ _ (d .can) in
+    let b : (0 < n - added m) × (n - added m + added m ≤ 34)
+    = in-bounds s m (symbologyOf s .limits) refl true true (n - added m) (sym (d .offers)) refl (sym h) refl in
+    (proper s .counts m (d .offers) .mode, (omega (arith, b .0), omega (arith, b .1)))
+
+pub count-read : (s m : ℕ) (row : Row) → judgedCount s m (row .len) ≡ Given
+    → told (readRow (symbologyOf s) m (take (row .len) (row .codes))) ≡ told (dataOfRow s m row)
+unfolding dataOfRow dataOfCount
+count-read s m row e =
+    let d : Drawable s m (row .len) = count-given s m (row .len) e in
+    rw (d .known, d .offers, d .can)
 
 -- ---- how many
 

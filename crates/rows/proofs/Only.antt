@@ -10,6 +10,8 @@ use Rattle.rows.proofs.row_of.Reads as RowOf
 use Rattle.rows.proofs.row_of.Kinds as RowOfKinds
 use Rattle.rows.proofs.row_of_field.Reads as RowOfField
 use Rattle.rows.proofs.row_of_field.Kinds as RowOfFieldKinds
+use Rattle.rows.proofs.judge_count.Reads as JudgeCount
+use Rattle.rows.proofs.judge_count.Kinds as JudgeCountKinds
 use Rattle.rows.proofs.data_of.Reads as DataOf
 use Rattle.rows.proofs.data_of.Kinds as DataOfKinds
 
@@ -18,6 +20,9 @@ row-of κs a p q x y = only
 
 pub row-of-field : One 1 RowOfFieldKinds.ps RowOfFieldKinds.r RowOfField.Learnt
 row-of-field κs a p q x y = only
+
+pub judge-count : One 0 JudgeCountKinds.ps JudgeCountKinds.r JudgeCount.Learnt
+judge-count κs a p q x y = only
 
 pub data-of : One 1 DataOfKinds.ps DataOfKinds.r DataOf.Learnt
 data-of κs a p q x y h k = only (h .0) (k .0)

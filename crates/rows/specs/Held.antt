@@ -10,6 +10,7 @@
 --   weighed        the total when all values are taken up
 --   told           an outcome as the code holds it
 --   finished       5, 6, 7 and the row
+--   judgedCount    whether a mode can give a drawn count
 --   dataOfRow, handedOf, written    a row's data, the answer, and the lent buffer afterwards
 --   starts, startOf    empty sums with the weights of n characters, by symbology number
 use mathlib.Core.Bool.{Bool, true, false, _&&_, not}
@@ -26,15 +27,17 @@ use Rattle.rows.specs.declared.full_ascii.Piece.the-variants.{Alone, Pai
 use Rattle.rows.specs.declared.check.Sum.{Sum}
 use Rattle.rows.specs.declared.spelling.Spelled.{Spelled}
 use Rattle.rows.specs.declared.spelling.Item.{Item}
+use Rattle.rows.specs.declared.drawing.Verdict.{Verdict}
 use Rattle.rows.specs.declared.drawing.Verdict.the-variants.{Given, Turned}
 use Rattle.rows.specs.declared.drawing.Rowed.{Rowed}
 use Rattle.rows.specs.declared.reading.Handed.{Handed}
 use Rattle.rows.specs.declared.reading.Handed.the-variants.{Data, Turned as HandedTurned}
 use Rattle.words.specs.declared.Bytes.{Bytes}
-use Rattle.words.specs.declared.Answer.the-variants.{OddCount, TooManyDrawn, BadCheck, ShortForData}
-use Rattle.rows.specs.Symbologies.{Symbology}
+use Rattle.words.specs.declared.Answer.the-variants.{NoSymbology, NoMode, BadLength, OddCount, TooManyDrawn, BadCheck, ShortForData}
+use Rattle.rows.specs.Limits.{offered}
+use Rattle.rows.specs.Symbologies.{Symbology, symbologyOf}
 use Rattle.rows.specs.Checks.{checkOf}
-use Rattle.rows.specs.Rows.{Outcome, gives, turned, charPlace, odd, dataOfCount}
+use Rattle.rows.specs.Rows.{Outcome, gives, turned, charPlace, odd, drawable, dataOfCount}
 
 abbrev pub pad : ℕ → List ℕ → List ℕ
 pad zero cs = []
@@ -132,6 +135,13 @@ finished y m head v =
     pick (odd y (head .len + pick (eqb m 0) 0 1)) (told (turned OddCount))
     (pick (ltb (y .room) (head .len + pick (eqb m 0) 0 1)) (told (turned TooManyDrawn))
     (closed m head v (checkOf (y .rule) (take (head .len) (head .codes)))))
+
+-- 1, 2, 9, or nothing against it
+abbrev pub judge : Bool → Bool → Bool → Verdict
+judge unknown unoffered undrawn = pick unknown (Turned NoSymbology) (pick unoffered (Turned NoMode) (pick undrawn (Turned BadLength) Given))
+
+unfoldable pub judgedCount : ℕ → ℕ → ℕ → Verdict
+judgedCount s m n = judge (not (symbologyOf s .limits .known)) (not (offered (symbologyOf s .limits) m)) (not (drawable (symbologyOf s) m n))
 
 -- the data of a row as it stands: its first `len` places
 unfoldable pub dataOfRow : ℕ → ℕ → Row → Outcome

@@ -21,7 +21,7 @@ pub use row::Row;
 ghost use mathlib.Core.Path.{_≡_};
 ghost use lib.ListN.{length};
 ghost use Rattle.rows.specs.Rows.{rowOf, rowOfField};
-ghost use Rattle.rows.specs.Held.{told, dataOfRow, handedOf, written};
+ghost use Rattle.rows.specs.Held.{told, judgedCount, dataOfRow, handedOf, written};
 
 // The row of data.
 pub fn row_of(symbology: u8, mode: u8, text: &[u8]) -> Rowed
@@ -35,6 +35,13 @@ pub fn row_of_field(symbology: u8, mode: u8, count: usize, field: &[u8]) -> Rowe
     ensures { λ r. ⌜ r ≡ told (rowOfField symbology mode count (now (field .entry))) ⌝ }
 {
     drawing::row_of_field(symbology, mode, count, field)
+}
+
+// 1, 2, 9: whether a mode of a symbology can give so many drawn characters.
+pub fn judge_count(symbology: u8, mode: u8, n: usize) -> Verdict
+    ensures { λ r. ⌜ r ≡ judgedCount symbology mode n ⌝ }
+{
+    reading::judge_count(symbology, mode, n)
 }
 
 // The data of a row, in the lent buffer.

@@ -18,7 +18,7 @@ ghost use lib.ListN.{length, take, drop};
 ghost use Rattle.rows.specs.Limits.{offered, holds};
 ghost use Rattle.rows.specs.Symbologies.{symbologyOf};
 ghost use Rattle.rows.specs.Rows.{gives, added, readRow};
-ghost use Rattle.rows.specs.Held.{told, dataOfRow, handedOf, written};
+ghost use Rattle.rows.specs.Held.{told, judgedCount, dataOfRow, handedOf, written};
 
 // How many data bytes were handed back, or the answer that turns the row away.
 pub enum Handed {
@@ -86,24 +86,33 @@ fn data_count(mode: u8, n: usize) -> usize
     }
 }
 
-pub fn read_row(symbology: u8, mode: u8, row: Row) -> Rowed
-    ensures { λ r. ⌜ r ≡ told (dataOfRow symbology mode row) ⌝ }
+// 1, 2, 9: whether a mode of a symbology can give so many drawn characters.
+pub fn judge_count(symbology: u8, mode: u8, n: usize) -> Verdict
+    ensures { λ r. ⌜ r ≡ judgedCount symbology mode n ⌝ }
 {
     let limits = limits::limits_of(symbology);
     if !limits.known {
-        return drawing::turn_away(Answer::NoSymbology);
+        return Verdict::Turned(Answer::NoSymbology);
     }
     if !drawing::offers(limits, mode) {
-        return drawing::turn_away(Answer::NoMode);
+        return Verdict::Turned(Answer::NoMode);
     }
-    let n = row.len;
     if !drawing::takes(limits, mode, data_count(mode, n)) {
-        return drawing::turn_away(Answer::BadLength);
+        return Verdict::Turned(Answer::BadLength);
     }
     if drawing::is_odd(symbology, n) {
-        return drawing::turn_away(Answer::BadLength);
+        return Verdict::Turned(Answer::BadLength);
     }
-    judged_row(symbology, mode, row)
+    Verdict::Given
+}
+
+pub fn read_row(symbology: u8, mode: u8, row: Row) -> Rowed
+    ensures { λ r. ⌜ r ≡ told (dataOfRow symbology mode row) ⌝ }
+{
+    match judge_count(symbology, mode, row.len) {
+        Verdict::Turned(answer) => drawing::turn_away(answer),
+        Verdict::Given => judged_row(symbology, mode, row),
+    }
 }
 
 // 8, and then the data in the lent buffer.
