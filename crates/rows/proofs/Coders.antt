@@ -3,6 +3,9 @@
 --   Single      no byte draws a pair
 --   Drawable    every drawn character is one of the alphabet
 --   plain39, plain-digits, codabar-all    by the alphabets, whose bytes and values undo one another
+--   back                                  full ASCII the other way: the byte of an item
+--   full-own, full-none                   a byte that draws an item is found; none where `back` has none
+--   full-ends                             found at the ends is found inside
 --   full-valid, full-drawable             by a test of the 256 bytes
 --   alone39, alone-digits, alone-codabar  the byte that draws a character alone
 --
@@ -10,7 +13,7 @@
 use mathlib.Core.Path.{_≡_, refl, sym, ap, _∙_}
 use mathlib.Core.Bool.{Bool, true, false, _&&_, not}
 use mathlib.Core.List.{List, [], _∷_, map}
-use Prim.Native.Nat.{ℕ, zero, suc, _+_, _<_, _≤_}
+use Prim.Native.Nat.{ℕ, zero, suc, _+_, _-_, _<_, _≤_}
 use native.Mathlib.Omega.{arith}
 use native.Mathlib.Decide.{decLt}
 use lib.Dec.{eqb, ltb, leb}
@@ -139,25 +142,39 @@ alone-codabar end v = alone-in alphabetCodabar proper-codabar (small-by alphabet
 
 -- ---- full ASCII
 
+-- the byte that an item stands for, the drawing codes read the other way: characters from one on to another stand for the
+-- bytes from a third on
+abbrev through : List (ℕ × ℕ × ℕ) → ℕ → ℕ
+through [] v = 256
+through (r ∷ rs) v =
+    let n = through rs v in
+    pick (leb (r .0) v && leb v (r .1)) (r .2 + (v - r .0)) n
+
+unfoldable pub back : List ℕ → ℕ
+back [] = 256
+back (v ∷ []) = pick (ltb v 39) (byteOf alphabet39 v) 256
+back (c ∷ v ∷ []) =
+    let slash = through ((10, 21, 0x21) ∷ (24, 24, 0x2F) ∷ (35, 35, 0x3A) ∷ []) v in
+    let plus = through ((10, 35, 0x61) ∷ []) v in
+    let percent = through ((15, 19, 0x3B) ∷ (20, 24, 0x5B) ∷ (25, 29, 0x7B) ∷ (31, 31, 0x40) ∷ (32, 32, 0x60) ∷ []) v in
+    let other = pick (eqb c 42) percent 256 in
+    let next = pick (eqb c 41) plus other in
+    pick (eqb c 40) slash next
+back (c ∷ v ∷ x ∷ cs) = 256
+
 abbrev fine : ℕ → List ℕ → Bool
 fine b [] = true
-fine b (c ∷ []) = not (fullCoder .shift c) && eqb (byteFor fullCoder true (c ∷ [])) b
-fine b (c ∷ d ∷ []) = fullCoder .shift c && eqb (byteFor fullCoder true (c ∷ d ∷ [])) b
+fine b (c ∷ []) = not (fullCoder .shift c) && eqb (back (c ∷ [])) b
+fine b (c ∷ d ∷ []) = fullCoder .shift c && eqb (back (c ∷ d ∷ [])) b
 fine b (c ∷ d ∷ e ∷ cs) = false
 
-all-fine : upto 256 (λ b. fine b (fullCoder .drawn true b)) ≡ true
-unfolding fullCoder shifts byteFor valueOf alphabet39 chars39 indexIn drawing ranges
-all-fine = refl
+-- and every character is one of the 43
+abbrev sound : ℕ → List ℕ → Bool
+sound b p = below-test 43 p && fine b p
 
--- the test does not look at the end
-full-view : (end : Bool) (b : ℕ) (p : List ℕ) → fullCoder .drawn end b ≡ p → fine b p ≡ true → b < 256 → Drawn fullCoder end b
-unfolding fullCoder byteFor
-full-view end b [] e f h = none e
-full-view end b (c ∷ []) e f h =
-    alone c e (not-true _ (both-left _ (eqb (byteFor fullCoder true (c ∷ [])) b) f)) (eqb-true _ b (both-right (not (fullCoder .shift c)) _ f)) h
-full-view end b (c ∷ d ∷ []) e f h =
-    pair c d e (both-left _ (eqb (byteFor fullCoder true (c ∷ d ∷ [])) b) f) (eqb-true _ b (both-right (fullCoder .shift c) _ f)) h
-full-view end b (c ∷ d ∷ x ∷ cs) e f h = let q : _≡_ {A = ℕ} 0 1 = cc in absurd (omega arith)
+all-sound : upto 256 (λ b. sound b (fullCoder .drawn true b)) ≡ true
+unfolding back byteOf fullCoder shifts valueOf alphabet39 chars39 indexIn drawing ranges
+all-sound = refl
 
 abbrev ending : List Range → Bool
 ending [] = true
@@ -177,22 +194,66 @@ full-past : (end : Bool) (b : ℕ) → 256 ≤ b → fullCoder .drawn end b ≡ 
 unfolding fullCoder drawing ranges
 full-past end b h = rw (past ranges b refl h)
 
-pub full-valid : Valid fullCoder
+none-some : (x : ℕ) (xs : List ℕ) → [] ≡ x ∷ xs → ⊥
+none-some x xs e = let z : _≡_ {A = ℕ} 0 1 = cc in omega arith
+
+fine-back : (b x : ℕ) (xs : List ℕ) → fine b (x ∷ xs) ≡ true → back (x ∷ xs) ≡ b
+fine-back b x [] f = eqb-true _ b (both-right (not (fullCoder .shift x)) _ f)
+fine-back b x (d ∷ []) f = eqb-true _ b (both-right (fullCoder .shift x) _ f)
+fine-back b x (d ∷ e ∷ cs) f = let z : _≡_ {A = ℕ} 0 1 = cc in absurd (omega arith)
+
+-- the test does not look at the end
+sound-at : (end : Bool) (b : ℕ) (p : List ℕ) → fullCoder .drawn end b ≡ p → b < 256 → sound b p ≡ true
 unfolding fullCoder
+sound-at end b p e h = rw e at (upto-at 256 (λ b. sound b (fullCoder .drawn true b)) all-sound b h)
+
+fine-at : (end : Bool) (b : ℕ) (p : List ℕ) → fullCoder .drawn end b ≡ p → b < 256 → fine b p ≡ true
+fine-at end b p e h = both-right (below-test 43 p) (fine b p) (sound-at end b p e h)
+
+back-own : (end : Bool) (b x : ℕ) (xs : List ℕ) → fullCoder .drawn end b ≡ x ∷ xs → (back (x ∷ xs) ≡ b) × (b < 256)
+back-own end b x xs e = go (decLt b 256)
+  where
+    go : Dec (b < 256) → (back (x ∷ xs) ≡ b) × (b < 256)
+    go (yes h) = (fine-back b x xs (fine-at end b (x ∷ xs) e h), h)
+    go (no h) = absurd (none-some x xs (sym (full-past end b (omega arith)) ∙ e))
+
+pub full-own : (end : Bool) (b x : ℕ) (xs : List ℕ) → fullCoder .drawn end b ≡ x ∷ xs → byteFor fullCoder end (x ∷ xs) ≡ b
+full-own end b x xs e =
+    for-own fullCoder end (x ∷ xs) b e (back-own end b x xs e .1) (λ a f. sym (back-own end a x xs f .0) ∙ back-own end b x xs e .0)
+
+pub full-none : (end : Bool) (x : ℕ) (xs : List ℕ) → back (x ∷ xs) ≡ 256 → byteFor fullCoder end (x ∷ xs) ≡ 256
+full-none end x xs n = for-none fullCoder end (x ∷ xs) (λ b e. omega (arith, back-own end b x xs e .0, back-own end b x xs e .1))
+
+full-view : (end : Bool) (b : ℕ) (p : List ℕ) → fullCoder .drawn end b ≡ p → fine b p ≡ true → b < 256 → Drawn fullCoder end b
+full-view end b [] e f h = none e
+full-view end b (c ∷ []) e f h = alone c e (not-true _ (both-left _ (eqb (back (c ∷ [])) b) f)) (full-own end b c [] e) h
+full-view end b (c ∷ d ∷ []) e f h = pair c d e (both-left _ (eqb (back (c ∷ d ∷ [])) b) f) (full-own end b c (d ∷ []) e) h
+full-view end b (c ∷ d ∷ x ∷ cs) e f h = let q : _≡_ {A = ℕ} 0 1 = cc in absurd (omega arith)
+
+first-same : (f g : ℕ → Bool) (l : List ℕ) → ((b : ℕ) → f b ≡ g b) → first f l ≡ first g l
+first-same f g [] h = refl
+first-same f g (x ∷ xs) h = rw (h x, first-same f g xs h)
+
+for-same : (k : Coder) (end : Bool) (item : List ℕ) → ((b : ℕ) → k .drawn true b ≡ k .drawn end b) → byteFor k true item ≡ byteFor k end item
+unfolding byteFor
+for-same k end item h = first-same (λ b. alike (k .drawn true b) item) (λ b. alike (k .drawn end b) item) (counted 0 256) (λ b. rw (h b))
+
+-- full ASCII draws the same at the ends and inside
+pub full-ends : (end : Bool) (item : List ℕ) → byteFor fullCoder true item ≡ byteFor fullCoder end item
+unfolding fullCoder
+full-ends end item = for-same fullCoder end item (λ b. refl)
+
+pub full-valid : Valid fullCoder
 full-valid end b = go (decLt b 256)
   where
     go : Dec (b < 256) → Drawn fullCoder end b
-    go (yes h) = full-view end b (fullCoder .drawn end b) refl (upto-at 256 (λ b. fine b (fullCoder .drawn true b)) all-fine b h) h
+    go (yes h) = full-view end b (fullCoder .drawn end b) refl (fine-at end b (fullCoder .drawn end b) refl h) h
     go (no h) = none (full-past end b (omega arith))
 
-all-below : upto 256 (λ b. below-test 43 (fullCoder .drawn true b)) ≡ true
-unfolding fullCoder valueOf alphabet39 chars39 indexIn drawing ranges
-all-below = refl
-
 pub full-drawable : Drawable alphabet39 fullCoder
-unfolding fullCoder alphabet39 chars39
+unfolding alphabet39 chars39
 full-drawable end b = go (decLt b 256)
   where
     go : Dec (b < 256) → Below 43 (fullCoder .drawn end b)
-    go (yes h) = below 43 (fullCoder .drawn end b) (upto-at 256 (λ b. below-test 43 (fullCoder .drawn true b)) all-below b h)
+    go (yes h) = below 43 (fullCoder .drawn end b) (both-left _ (fine b (fullCoder .drawn end b)) (sound-at end b (fullCoder .drawn end b) refl h))
     go (no h) = rw (full-past end b (omega arith)) tt

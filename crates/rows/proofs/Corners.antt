@@ -96,6 +96,18 @@ rows =
     ∷ dataOf 5 2 (row 5 "004176") draws text "00417"
     ∷ []
 
-pub corners : map (λ (c : Outcome × Outcome). c .0) (requests ++ fields ++ rows) ≡ map (λ (c : Outcome × Outcome). c .1) (requests ++ fields ++ rows)
+-- each by itself, and one side only: the other is what it should compute to
+abbrev Same : List (Outcome × Outcome) → Type 0
+Same [] = Unit {0}
+Same (c ∷ cs) = (c .0 ≡ c .1) × Same cs
+
+sides : (cs : List (Outcome × Outcome)) → Same cs → map (λ (c : Outcome × Outcome). c .0) cs ≡ map (λ (c : Outcome × Outcome). c .1) cs
+sides [] s = refl
+sides (c ∷ cs) s = rw (s .0, sides cs (s .1))
+
+all : Same (requests ++ fields ++ rows)
 unfolding rowOf rowOfField drawnRow dataOf dataOfCount readRow byteFor symbologyOf symbologies valueOf byteOf plain codabarCoder fullCoder shifts checkOf by43 left10 right10 indexIn drawing ranges alphabet39 chars39 table42 alphabetCodabar table41 alphabetDigits table44
-corners = refl
+all = (refl, (refl, (refl, (refl, (refl, (refl, (refl, (refl, (refl, (refl, (refl, (refl, (refl, (refl, (refl, (refl, (refl, (refl, (refl, (refl, (refl, (refl, (refl, (refl, (refl, (refl, (refl, (refl, (refl, (refl, (refl, (refl, (refl, (refl, (refl, (refl, (refl, (refl, (refl, (refl, (refl, (refl, (refl, (refl, (refl, (refl, (refl, tt)))))))))))))))))))))))))))))))))))))))))))))))
+
+pub corners : map (λ (c : Outcome × Outcome). c .0) (requests ++ fields ++ rows) ≡ map (λ (c : Outcome × Outcome). c .1) (requests ++ fields ++ rows)
+corners = sides (requests ++ fields ++ rows) all

@@ -3,7 +3,7 @@
 --   others    coder and alphabet of every other number
 --   shifting  a character that begins a pair is /, + or %, in full ASCII
 --   shift-low, shift-mid, shift-high, shift-from    and those three do begin one
---   pair-full  the byte that draws a pair
+--   pair-full, alone-full  the byte that draws a pair, or a character
 --   room-small   34 places are room enough
 --   only-five, only-two    only Interleaved asks for an even count, and only full ASCII for fewer than 34
 --
@@ -27,6 +27,7 @@ use Rattle.rows.specs.declared.limits.Limits.{Limits}
 use Rattle.rows.specs.Limits.{unknown}
 use Rattle.rows.specs.Coders.{plain, codabarCoder, shifts, fullCoder}
 use Rattle.rows.specs.Checks.{Rule, noCheck}
+use Rattle.rows.proofs.Coders.{full-ends}
 use Rattle.rows.specs.Symbologies.{Symbology, digits, symbologies, symbologyOf}
 
 pub record Digits (y : Symbology) : Type 0 where
@@ -97,10 +98,15 @@ shift-from v h = go (decLt v 43)
     go (yes l) = lt-ltb v 43 l ∙ sym (shift-mid v h l)
     go (no l) = le-ltb v 43 (omega arith) ∙ sym (shift-high v (omega arith))
 
--- full ASCII draws the same at the ends and inside
+coder-full : (s : ℕ) → s ≡ 2 → fullCoder ≡ symbologyOf s .coder
+unfolding symbologyOf symbologies
+coder-full s e = rw e
+
 pub pair-full : (s c d : ℕ) (end : Bool) → s ≡ 2 → byteFor fullCoder true (c ∷ d ∷ []) ≡ byteFor (symbologyOf s .coder) end (c ∷ d ∷ [])
-unfolding symbologyOf symbologies fullCoder byteFor
-pair-full s c d end e = rw e
+pair-full s c d end e = rw (← coder-full s e) (full-ends end (c ∷ d ∷ []))
+
+pub alone-full : (s c : ℕ) (end : Bool) → s ≡ 2 → byteFor fullCoder true (c ∷ []) ≡ byteFor (symbologyOf s .coder) end (c ∷ [])
+alone-full s c end e = rw (← coder-full s e) (full-ends end (c ∷ []))
 
 -- ---- the two numbers that are told apart by 5 and 6
 

@@ -14,6 +14,7 @@ use Prim.Native.Nat.{ℕ, _+_, _-_, _<_, _≤_}
 use native.Mathlib.Omega.{arith}
 use lib.Dec.{ltb, leb}
 use lib.ListN.{length, getD, take, drop, length-drop}
+use lib.Seq.{length-take-le}
 use borrow.Author.Tests.{lt-ltb, le-ltb, le-leb, lt-leb, not-true, not-false}
 use Rattle.laws.specs.Search.{pick}
 use Rattle.words.specs.declared.Answer.{Answer}
@@ -56,6 +57,13 @@ module _ (s m : ℕ) (lim : Limits) (e : lim ≡ symbologyOf s .limits) where
       let b : (getD (symbologyOf s .limits .least) m 0 ≤ count) × (count ≤ getD (symbologyOf s .limits .most) m 0)
       = held (symbologyOf s .limits) m count (holds-is h true count r (not-false h k)) in
       (omega (arith, n .some, b .0), omega (arith, n .cap, b .1, room-small s))
+
+  -- the data bytes that are taken from a field
+  pub in-part : (count : ℕ) (field : List ℕ) → count ≤ length field → (o : Bool) → o ≡ offered lim m → not o ≡ false → (h : Bool) → h ≡ holds lim m count → not h ≡ false
+      → (0 < length (take count field)) × (length (take count field) ≤ 34)
+  in-part count field l o q p h r k =
+      let b : (0 < count) × (count + added m ≤ 34) = in-bounds o h count q p r k in
+      rw (length-take-le count field l) (b .0, omega (arith, b .1))
 
   -- behind 1 and 2
   pub behind-2 : not (lim .known) ≡ false → (o : Bool) → o ≡ offered lim m → not o ≡ false → (x : Rowed) (z : Outcome) → x ≡ told z

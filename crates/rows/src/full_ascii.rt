@@ -1,7 +1,7 @@
 // Full ASCII (source 004, 10.1.3, as document 01 words it): what a byte draws, as values of Code 39, and the way back.
 ghost use mathlib.Core.Path.{_≡_};
 ghost use mathlib.Core.Bool.{true};
-ghost use mathlib.Core.List.{List, [], _∷_};
+ghost use mathlib.Core.List.{[], _∷_};
 ghost use Rattle.laws.specs.Spelling.{byteFor};
 ghost use Rattle.rows.specs.Coders.{fullCoder};
 ghost use Rattle.rows.specs.Held.{pieceList};

@@ -1,6 +1,6 @@
 // A row: the drawn characters, 34 places and their number. Past 34 only the number grows.
 ghost use mathlib.Core.Path.{_≡_};
-ghost use mathlib.Core.List.{List, []};
+ghost use mathlib.Core.List.{[]};
 ghost use Prim.Native.Nat.{_<_};
 ghost use lib.ListN.{length, set};
 ghost use Rattle.rows.specs.Held.{rowIn, pushed};

@@ -2,11 +2,9 @@
 -- Assumes nothing.
 use mathlib.Core.Path.{sym, _∙_}
 use borrow.Author.Needs.{needs}
-use Rattle.laws.specs.Spelling.{byteFor}
-use Rattle.rows.specs.Coders.{fullCoder}
 use Rattle.rows.specs.Symbologies.{symbologies, symbologyOf}
 use Rattle.rows.proofs.Coders.{alone39, alone-digits, alone-codabar}
-use Rattle.rows.proofs.Numbers.{others}
+use Rattle.rows.proofs.Numbers.{others, alone-full}
 use borrow.Author.Needs.{needs}
 use Rattle.rows.proofs.coder.alone.Statement.{statement}
 use Rattle.rows.proofs.coder.alone.Tie as tie
@@ -16,8 +14,7 @@ unfolding symbologyOf symbologies
 returns c = c .own-byte .ensures ∙ rw (c .before .byte .ensures, c .before .before .match .keys1) (sym (alone39 _ _))
 
 returns-2 : tie.Need-returns-2
-unfolding symbologyOf symbologies fullCoder byteFor
-returns-2 c = c .alone .ensures ∙ rw (c .before .match .keys2)
+returns-2 c = c .alone .ensures ∙ alone-full _ _ _ (c .before .match .keys2)
 
 returns-3 : tie.Need-returns-3
 unfolding symbologyOf symbologies

@@ -1,7 +1,8 @@
 -- `checked_row`: what the bytes before the last spell, and the last as the check.
 -- Assumes nothing.
 use mathlib.Core.Path.{_≡_, refl, sym, _∙_}
-use Prim.Native.Nat.{_-_}
+use mathlib.Core.List.{List}
+use Prim.Native.Nat.{ℕ, _-_}
 use native.Mathlib.Omega.{arith}
 use borrow.Author.Needs.{needs}
 use borrow.Author.Tests.{lt-ltb, le-ltb}
@@ -16,22 +17,25 @@ use borrow.Author.Needs.{needs}
 use Rattle.rows.proofs.drawing.checked_row.Statement.{statement}
 use Rattle.rows.proofs.drawing.checked_row.Tie as tie
 
+front-long : (t : List ℕ) → length (front t) ≡ length t - 1
+front-long t = length-take-le (length t - 1) t (omega arith)
+
 slice-aggregate-spell-text : tie.Need-slice-aggregate-spell-text
 slice-aggregate-spell-text c =
     let t = c .before .before .args .text .now in
-    let k : length (front t) ≡ length t - 1 = length-take-le (length t - 1) t (omega (arith, c .before .before .pre .0)) in
+    let k : length (front t) ≡ length t - 1 = front-long t in
     sym k
 
 spell-text-requires : tie.Need-spell-text-requires
 spell-text-requires c κs =
     let t = c .before .before .args .text .now in
-    let k : length (front t) ≡ length t - 1 = length-take-le (length t - 1) t (omega (arith, c .before .before .pre .0)) in
+    let k : length (front t) ≡ length t - 1 = front-long t in
     omega (arith, c .before .before .pre .1)
 
 returns : tie.Need-returns
 returns c =
     let t = c .before .before .before .before .before .args .text .now in
-    let k : length (front t) ≡ length t - 1 = length-take-le (length t - 1) t (omega (arith, c .before .before .before .before .before .pre .0)) in
+    let k : length (front t) ≡ length t - 1 = front-long t in
     c .turn-away .ensures ∙ not-spelled (symbologyOf (c .before .before .before .before .before .args .symbology))
     (proper (c .before .before .before .before .before .args .symbology) .valid) (room-small (c .before .before .before .before .before .args .symbology)) 1
     (c .before .before .before .before .before .args .text .now) (front (c .before .before .before .before .before .args .text .now)) _ refl refl
@@ -40,7 +44,7 @@ returns c =
 returns-2 : tie.Need-returns-2
 returns-2 c =
     let t = c .before .before .before .before .before .before .before .before .before .args .text .now in
-    let k : length (front t) ≡ length t - 1 = length-take-le (length t - 1) t (omega (arith, c .before .before .before .before .before .before .before .before .before .pre .0)) in
+    let k : length (front t) ≡ length t - 1 = front-long t in
     c .turn-away2 .ensures ∙ not-raw (symbologyOf (c .before .before .before .before .before .before .before .before .before .args .symbology))
     (proper (c .before .before .before .before .before .before .before .before .before .args .symbology) .valid)
     (room-small (c .before .before .before .before .before .before .before .before .before .args .symbology)) 1
@@ -53,7 +57,7 @@ returns-2 c =
 finish-requires : tie.Need-finish-requires
 finish-requires c κs =
     let t = c .before .before .before .before .before .before .before .before .before .args .text .now in
-    let k : length (front t) ≡ length t - 1 = length-take-le (length t - 1) t (omega (arith, c .before .before .before .before .before .before .before .before .before .pre .0)) in
+    let k : length (front t) ≡ length t - 1 = front-long t in
     spelled-len (symbologyOf (c .before .before .before .before .before .before .before .before .before .args .symbology))
     (proper (c .before .before .before .before .before .before .before .before .before .args .symbology) .valid)
     (room-small (c .before .before .before .before .before .before .before .before .before .args .symbology)) 1
@@ -66,7 +70,7 @@ finish-requires c κs =
 returns-3 : tie.Need-returns-3
 returns-3 c =
     let t = c .before .before .before .before .before .before .before .before .before .before .args .text .now in
-    let k : length (front t) ≡ length t - 1 = length-take-le (length t - 1) t (omega (arith, c .before .before .before .before .before .before .before .before .before .before .pre .0)) in
+    let k : length (front t) ≡ length t - 1 = front-long t in
     c .finish .ensures ∙ finished-row (symbologyOf (c .before .before .before .before .before .before .before .before .before .before .args .symbology))
     (proper (c .before .before .before .before .before .before .before .before .before .before .args .symbology) .valid)
     (room-small (c .before .before .before .before .before .before .before .before .before .before .args .symbology)) 1

@@ -2,16 +2,15 @@
 -- Assumes nothing.
 use borrow.Author.Needs.{needs}
 use mathlib.Core.Path.{refl, _∙_}
-use mathlib.Core.Bool.{true}
-use mathlib.Core.List.{[], _∷_}
+use mathlib.Core.List.{[]}
 use Rattle.laws.specs.Search.{indexIn}
-use Rattle.laws.specs.Spelling.{byteFor}
-use Rattle.laws.proofs.Finite.{line}
 use Rattle.tables.specs.Alphabet.{valueOf, byteOf}
 use Rattle.tables.specs.Code39.{alphabet39, chars39}
 use Rattle.tables.specs.FullAscii.{drawing, ranges}
 use Rattle.rows.specs.Coders.{fullCoder}
-use Rattle.rows.proofs.Items.{rest}
+use native.Mathlib.Omega.{arith}
+use Rattle.rows.proofs.Coders.{back}
+use Rattle.rows.proofs.Items.{owns, lost}
 use Rattle.rows.proofs.full_ascii.alone.Statement.{statement}
 use Rattle.rows.proofs.full_ascii.alone.Tie as tie
 
@@ -21,5 +20,5 @@ alone-spec =
     (tie.spec
     (λ c κs. search needs)
     (λ c. search needs)
-    (λ c. unfold byteOf fullCoder byteFor valueOf alphabet39 chars39 indexIn drawing ranges in c .byte .ensures ∙ line 39 (byteOf alphabet39) (λ v. byteFor fullCoder true (v ∷ [])) refl _ (c .before .if1 .taken))
-    (λ c. unfold fullCoder byteFor valueOf alphabet39 chars39 indexIn drawing ranges in rest [] 39 4 (λ v. v ∷ []) (λ v b. b .0) refl refl _ (c .if1 .left) tt))
+    (λ c. unfold byteOf fullCoder valueOf alphabet39 chars39 indexIn drawing ranges in c .byte .ensures ∙ owns [] 0 39 (λ v. v) (λ v. []) (byteOf alphabet39) refl _ (omega arith) (c .before .if1 .taken) tt)
+    (λ c. unfold back in lost [] 39 217 (λ v. v) (λ v. []) refl _ (c .if1 .left) (search needs) tt))

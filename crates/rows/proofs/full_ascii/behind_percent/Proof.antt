@@ -1,19 +1,18 @@
 -- `behind_percent` gives the bytes of the pairs with %: each arm of the match is one test over the characters that it takes.
 -- Assumes nothing.
 use borrow.Author.Needs.{needs}
-use mathlib.Core.Path.{refl}
+use mathlib.Core.Path.{refl, sym}
 use mathlib.Core.Bool.{true}
 use mathlib.Core.List.{List, [], _∷_}
 use Prim.Native.Nat.{ℕ, _+_, _-_}
 use native.Mathlib.Omega.{arith}
 use Rattle.laws.specs.Search.{indexIn}
-use Rattle.laws.specs.Spelling.{byteFor}
-use Rattle.laws.proofs.Arms.{agree}
 use Rattle.tables.specs.Alphabet.{valueOf}
 use Rattle.tables.specs.Code39.{alphabet39, chars39}
 use Rattle.tables.specs.FullAscii.{drawing, ranges}
 use Rattle.rows.specs.Coders.{fullCoder}
-use Rattle.rows.proofs.Items.{rest}
+use Rattle.rows.proofs.Coders.{back, full-own}
+use Rattle.rows.proofs.Items.{owns, lost}
 use Rattle.rows.proofs.full_ascii.behind_percent.Statement.{statement}
 use Rattle.rows.proofs.full_ascii.behind_percent.Tie as tie
 
@@ -31,10 +30,10 @@ behind-percent-spec =
     (λ c. search needs)
     (λ c. search needs)
     (λ c. search needs)
-    (λ c. unfold fullCoder byteFor valueOf alphabet39 chars39 indexIn drawing ranges in rw (c .match .keys1))
-    (λ c. unfold fullCoder byteFor valueOf alphabet39 chars39 indexIn drawing ranges in rw (c .match .keys2))
-    (λ c. unfold fullCoder byteFor valueOf alphabet39 chars39 indexIn drawing ranges in agree [] 15 5 (λ v. v - 15 + 59) (λ v. byteFor fullCoder true (42 ∷ v ∷ [])) refl _ (c .before .if1 .left) (c .if2 .taken) tt)
-    (λ c. unfold fullCoder byteFor valueOf alphabet39 chars39 indexIn drawing ranges in agree [] 20 5 (λ v. v - 20 + 91) (λ v. byteFor fullCoder true (42 ∷ v ∷ [])) refl _ (c .before .if2 .left) (c .if3 .taken) tt)
-    (λ c. unfold fullCoder byteFor valueOf alphabet39 chars39 indexIn drawing ranges in agree [] 25 5 (λ v. v - 25 + 123) (λ v. byteFor fullCoder true (42 ∷ v ∷ [])) refl _ (c .before .if3 .left) (c .if4 .taken) tt)
-    (λ c. unfold fullCoder byteFor valueOf alphabet39 chars39 indexIn drawing ranges in agree [] 0 15 (λ v. 256) (λ v. byteFor fullCoder true (42 ∷ v ∷ [])) refl _ (omega arith) (c .if1 .taken) tt)
-    (λ c. unfold fullCoder byteFor valueOf alphabet39 chars39 indexIn drawing ranges in rest keys 30 13 (λ v. 42 ∷ v ∷ []) (λ v b. b .1 .0) refl refl _ (c .if4 .left) (c .before .before .before .before .match .rest)))
+    (λ c. rw (c .match .keys1) (sym (full-own true 64 42 (31 ∷ []) (unfold fullCoder valueOf alphabet39 chars39 indexIn drawing ranges in refl))))
+    (λ c. rw (c .match .keys2) (sym (full-own true 96 42 (32 ∷ []) (unfold fullCoder valueOf alphabet39 chars39 indexIn drawing ranges in refl))))
+    (λ c. unfold fullCoder valueOf alphabet39 chars39 indexIn drawing ranges in owns [] 15 5 (λ v. 42) (λ v. v ∷ []) (λ v. v - 15 + 59) refl _ (c .before .if1 .left) (c .if2 .taken) tt)
+    (λ c. unfold fullCoder valueOf alphabet39 chars39 indexIn drawing ranges in owns [] 20 5 (λ v. 42) (λ v. v ∷ []) (λ v. v - 20 + 91) refl _ (c .before .if2 .left) (c .if3 .taken) tt)
+    (λ c. unfold fullCoder valueOf alphabet39 chars39 indexIn drawing ranges in owns [] 25 5 (λ v. 42) (λ v. v ∷ []) (λ v. v - 25 + 123) refl _ (c .before .if3 .left) (c .if4 .taken) tt)
+    (λ c. unfold back in lost [] 0 15 (λ v. 42) (λ v. v ∷ []) refl _ (omega arith) (c .if1 .taken) tt)
+    (λ c. unfold back in lost keys 30 226 (λ v. 42) (λ v. v ∷ []) refl _ (c .if4 .left) (search needs) (c .before .before .before .before .match .rest)))

@@ -2,18 +2,16 @@
 -- Assumes nothing.
 use borrow.Author.Needs.{needs}
 use mathlib.Core.Path.{refl}
-use mathlib.Core.Bool.{true}
 use mathlib.Core.List.{[], _∷_}
 use Prim.Native.Nat.{_+_, _-_}
 use native.Mathlib.Omega.{arith}
 use Rattle.laws.specs.Search.{indexIn}
-use Rattle.laws.specs.Spelling.{byteFor}
-use Rattle.laws.proofs.Arms.{agree}
 use Rattle.tables.specs.Alphabet.{valueOf}
 use Rattle.tables.specs.Code39.{alphabet39, chars39}
 use Rattle.tables.specs.FullAscii.{drawing, ranges}
 use Rattle.rows.specs.Coders.{fullCoder}
-use Rattle.rows.proofs.Items.{rest}
+use Rattle.rows.proofs.Coders.{back}
+use Rattle.rows.proofs.Items.{owns, lost}
 use Rattle.rows.proofs.full_ascii.behind_plus.Statement.{statement}
 use Rattle.rows.proofs.full_ascii.behind_plus.Tie as tie
 
@@ -23,6 +21,6 @@ behind-plus-spec =
     (tie.spec
     (λ c. search needs)
     (λ c. search needs)
-    (λ c. unfold fullCoder byteFor valueOf alphabet39 chars39 indexIn drawing ranges in agree [] 10 26 (λ v. v - 10 + 97) (λ v. byteFor fullCoder true (41 ∷ v ∷ [])) refl _ (c .before .if1 .left) (c .if2 .taken) tt)
-    (λ c. unfold fullCoder byteFor valueOf alphabet39 chars39 indexIn drawing ranges in agree [] 0 10 (λ v. 256) (λ v. byteFor fullCoder true (41 ∷ v ∷ [])) refl _ (omega arith) (c .if1 .taken) tt)
-    (λ c. unfold fullCoder byteFor valueOf alphabet39 chars39 indexIn drawing ranges in rest [] 36 7 (λ v. 41 ∷ v ∷ []) (λ v b. b .1 .0) refl refl _ (c .if2 .left) tt))
+    (λ c. unfold fullCoder valueOf alphabet39 chars39 indexIn drawing ranges in owns [] 10 26 (λ v. 41) (λ v. v ∷ []) (λ v. v - 10 + 97) refl _ (c .before .if1 .left) (c .if2 .taken) tt)
+    (λ c. unfold back in lost [] 0 10 (λ v. 41) (λ v. v ∷ []) refl _ (omega arith) (c .if1 .taken) tt)
+    (λ c. unfold back in lost [] 36 220 (λ v. 41) (λ v. v ∷ []) refl _ (c .if2 .left) (search needs) tt))

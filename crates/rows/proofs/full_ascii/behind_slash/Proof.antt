@@ -1,19 +1,18 @@
 -- `behind_slash` gives the bytes of the pairs with /: each arm of the match is one test over the characters that it takes.
 -- Assumes nothing.
 use borrow.Author.Needs.{needs}
-use mathlib.Core.Path.{refl}
+use mathlib.Core.Path.{refl, sym}
 use mathlib.Core.Bool.{true}
 use mathlib.Core.List.{List, [], _∷_}
 use Prim.Native.Nat.{ℕ, _+_, _-_}
 use native.Mathlib.Omega.{arith}
 use Rattle.laws.specs.Search.{indexIn}
-use Rattle.laws.specs.Spelling.{byteFor}
-use Rattle.laws.proofs.Arms.{agree}
 use Rattle.tables.specs.Alphabet.{valueOf}
 use Rattle.tables.specs.Code39.{alphabet39, chars39}
 use Rattle.tables.specs.FullAscii.{drawing, ranges}
 use Rattle.rows.specs.Coders.{fullCoder}
-use Rattle.rows.proofs.Items.{rest}
+use Rattle.rows.proofs.Coders.{back, full-own}
+use Rattle.rows.proofs.Items.{owns, lost}
 use Rattle.rows.proofs.full_ascii.behind_slash.Statement.{statement}
 use Rattle.rows.proofs.full_ascii.behind_slash.Tie as tie
 
@@ -27,8 +26,8 @@ behind-slash-spec =
     (tie.spec
     (λ c. search needs)
     (λ c. search needs)
-    (λ c. unfold fullCoder byteFor valueOf alphabet39 chars39 indexIn drawing ranges in rw (c .match .keys1))
-    (λ c. unfold fullCoder byteFor valueOf alphabet39 chars39 indexIn drawing ranges in rw (c .match .keys2))
-    (λ c. unfold fullCoder byteFor valueOf alphabet39 chars39 indexIn drawing ranges in agree [] 10 12 (λ v. v - 10 + 33) (λ v. byteFor fullCoder true (40 ∷ v ∷ [])) refl _ (c .before .if1 .left) (c .if2 .taken) tt)
-    (λ c. unfold fullCoder byteFor valueOf alphabet39 chars39 indexIn drawing ranges in agree [] 0 10 (λ v. 256) (λ v. byteFor fullCoder true (40 ∷ v ∷ [])) refl _ (omega arith) (c .if1 .taken) tt)
-    (λ c. unfold fullCoder byteFor valueOf alphabet39 chars39 indexIn drawing ranges in rest keys 22 21 (λ v. 40 ∷ v ∷ []) (λ v b. b .1 .0) refl refl _ (c .if2 .left) (c .before .before .match .rest)))
+    (λ c. rw (c .match .keys1) (sym (full-own true 47 40 (24 ∷ []) (unfold fullCoder valueOf alphabet39 chars39 indexIn drawing ranges in refl))))
+    (λ c. rw (c .match .keys2) (sym (full-own true 58 40 (35 ∷ []) (unfold fullCoder valueOf alphabet39 chars39 indexIn drawing ranges in refl))))
+    (λ c. unfold fullCoder valueOf alphabet39 chars39 indexIn drawing ranges in owns [] 10 12 (λ v. 40) (λ v. v ∷ []) (λ v. v - 10 + 33) refl _ (c .before .if1 .left) (c .if2 .taken) tt)
+    (λ c. unfold back in lost [] 0 10 (λ v. 40) (λ v. v ∷ []) refl _ (omega arith) (c .if1 .taken) tt)
+    (λ c. unfold back in lost keys 22 234 (λ v. 40) (λ v. v ∷ []) refl _ (c .if2 .left) (search needs) (c .before .before .match .rest)))

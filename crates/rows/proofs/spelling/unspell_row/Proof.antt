@@ -1,7 +1,7 @@
 -- `unspell_row` reads back: the loop keeps what `Unspelling` says, item by item.
 -- Assumes nothing.
 use mathlib.Core.Path.{_≡_}
-use Prim.Native.Nat.{_-_}
+use Prim.Native.Nat.{ℕ, _-_, _≤_}
 use native.Mathlib.Omega.{arith}
 use borrow.Author.Needs.{needs}
 use lib.ListN.{length, take}
@@ -10,6 +10,9 @@ use Rattle.rows.specs.Symbologies.{symbologyOf}
 use Rattle.rows.proofs.Loops.{Unspelling, begin, item-refused, item-next, width-fits, read-back, few-bytes, places}
 use Rattle.rows.proofs.spelling.unspell_row.Statement.{statement}
 use Rattle.rows.proofs.spelling.unspell_row.Tie as tie
+
+under : (n m : ℕ) → m ≡ 34 → n ≤ 34 → n ≤ m
+under n m e h = omega arith
 
 abbrev Inv-loop : tie.InvT-loop
 Inv-loop symbology row n text₀ len₀ at₀ text len at = Unspelling (symbologyOf symbology .coder) (take n (row .codes)) (record { codes = text; len = len }) at
@@ -27,7 +30,7 @@ returns : tie.Need-returns Inv-loop μ-loop
 returns c =
     let a = c .before .before .before .before .before in
     let long : length (a .args .row .codes) ≡ 34 = search needs in
-    let m : length (take (a .args .n) (a .args .row .codes)) ≡ a .args .n = length-take-le (a .args .n) (a .args .row .codes) (omega (arith, a .pre)) in
+    let m : length (take (a .args .n) (a .args .row .codes)) ≡ a .args .n = length-take-le (a .args .n) (a .args .row .codes) (under _ _ long (a .pre)) in
     item-refused _ _ _ _ _ m (c .before .before .before .before .loop .inv) (c .before .before .before .loop-test .taken) (c .before .before .item-at .result)
     (c .before .before .item-at .ensures) (c .before .if1 .taken) _ (c .empty .ensures)
 
@@ -35,14 +38,14 @@ add-len : tie.Need-add-len Inv-loop μ-loop
 add-len c =
     let a = c .before .before .before .before .before .before in
     let long : length (a .args .row .codes) ≡ 34 = search needs in
-    let m : length (take (a .args .n) (a .args .row .codes)) ≡ a .args .n = length-take-le (a .args .n) (a .args .row .codes) (omega (arith, a .pre)) in
+    let m : length (take (a .args .n) (a .args .row .codes)) ≡ a .args .n = length-take-le (a .args .n) (a .args .row .codes) (under _ _ long (a .pre)) in
     omega (arith, few-bytes _ _ _ _ _ m (c .before .before .before .before .before .loop .inv) (a .pre))
 
 add-at : tie.Need-add-at Inv-loop μ-loop
 add-at c =
     let a = c .before .before .before .before .before .before .before in
     let long : length (a .args .row .codes) ≡ 34 = search needs in
-    let m : length (take (a .args .n) (a .args .row .codes)) ≡ a .args .n = length-take-le (a .args .n) (a .args .row .codes) (omega (arith, a .pre)) in
+    let m : length (take (a .args .n) (a .args .row .codes)) ≡ a .args .n = length-take-le (a .args .n) (a .args .row .codes) (under _ _ long (a .pre)) in
     omega
     (arith, width-fits _ _ _ _ _ m (c .before .before .before .before .before .before .loop .inv) (c .before .before .before .before .before .loop-test .taken) (c .before .before .before .before .item-at .result) (c .before .before .before .before .item-at .ensures) .1)
 
@@ -50,7 +53,7 @@ loop-less : tie.Need-loop-less Inv-loop μ-loop
 loop-less c =
     let a = c .before .before .before .before .before .before .before in
     let long : length (a .args .row .codes) ≡ 34 = search needs in
-    let m : length (take (a .args .n) (a .args .row .codes)) ≡ a .args .n = length-take-le (a .args .n) (a .args .row .codes) (omega (arith, a .pre)) in
+    let m : length (take (a .args .n) (a .args .row .codes)) ≡ a .args .n = length-take-le (a .args .n) (a .args .row .codes) (under _ _ long (a .pre)) in
     let w = width-fits _ _ _ _ _ m (c .before .before .before .before .before .before .loop .inv) (c .before .before .before .before .before .loop-test .taken) (c .before .before .before .before .item-at .result) (c .before .before .before .before .item-at .ensures) in
     omega (arith, w .0, w .1)
 
@@ -58,7 +61,7 @@ loop-again : tie.Need-loop-again Inv-loop μ-loop
 loop-again c =
     let a = c .before .before .before .before .before .before .before in
     let long : length (a .args .row .codes) ≡ 34 = search needs in
-    let m : length (take (a .args .n) (a .args .row .codes)) ≡ a .args .n = length-take-le (a .args .n) (a .args .row .codes) (omega (arith, a .pre)) in
+    let m : length (take (a .args .n) (a .args .row .codes)) ≡ a .args .n = length-take-le (a .args .n) (a .args .row .codes) (under _ _ long (a .pre)) in
     item-next _ _ _ _ _ m (c .before .before .before .before .before .before .loop .inv) (c .before .before .before .before .before .loop-test .taken)
     (c .before .before .before .before .item-at .result) (c .before .before .before .before .item-at .ensures) (c .before .before .before .if1 .left) _ (rw (c .before .store .ensures))
 
@@ -66,7 +69,7 @@ returns-2 : tie.Need-returns-2 Inv-loop μ-loop
 returns-2 c =
     let a = c .before .before in
     let long : length (a .args .row .codes) ≡ 34 = search needs in
-    let m : length (take (a .args .n) (a .args .row .codes)) ≡ a .args .n = length-take-le (a .args .n) (a .args .row .codes) (omega (arith, a .pre)) in
+    let m : length (take (a .args .n) (a .args .row .codes)) ≡ a .args .n = length-take-le (a .args .n) (a .args .row .codes) (under _ _ long (a .pre)) in
     read-back _ _ _ _ _ m (c .before .loop .inv) (c .loop-test .left)
 
 pub unspell-row-spec : {M : Type 1} → statement M
