@@ -8,7 +8,7 @@
 --   ready-fits      the choices that a ready row makes fit the units of its strip
 --   steady-39 ..    every free set of these strips is uniform: all but Codabar's inner one
 --   all-good        every free set of every strip is good
---   few             a strip has at most 339 elements
+--   few-elements, few    a strip has at most 339 elements
 --
 -- Assumes nothing.
 use mathlib.Core.Path.{_≡_, refl, sym, ap, _∙_}
@@ -372,5 +372,8 @@ small = (
   ),
 )
 
+pub few-elements : (s n : ℕ) → counted s n ≡ true → elementsOf s n ≤ 339
+few-elements s n c = by-number Few small s n c n c
+
 pub few : (s : ℕ) (r : List ℕ) → ready s r ≡ true → elementsOf s (length r) ≤ 339
-few s r h = let c : counted s (length r) ≡ true = ready-counted s r h in by-number Few small s (length r) c (length r) c
+few s r h = few-elements s (length r) (ready-counted s r h)
