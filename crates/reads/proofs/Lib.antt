@@ -1,0 +1,14 @@
+pub mod Characters
+pub mod Gathering
+pub mod Hand
+pub mod Lengths
+pub mod Modules
+pub mod Numbered
+pub mod Only
+pub mod Packing
+pub mod Pieces
+pub mod Seeing
+pub mod Shown
+pub mod Walking
+pub mod Weaving
+pub mod Widths

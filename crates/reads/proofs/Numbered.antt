@@ -1,0 +1,211 @@
+-- Which unit stands where, by symbology number: counted by how many are left, the units of a shape are those that `unitOf` gives,
+-- since behind the start the shapes repeat one group. The strips of EAN and UPC have one length, and there each unit is compared.
+--
+--   past-nine     a number from 3 on that has none of the arms for 3 to 9 is 10 or more
+--   unit-some     a unit has at least one element
+--   fixed-small   a fixed pattern has at most nine, and its code as many bits
+--   unit-length   the units of a shape are as many as `unitCount` says
+--   unit-kind     unit u of a shape is the one with which so many are left
+--
+-- Assumes nothing.
+use mathlib.Core.Path.{_≡_, refl, ap, _∙_}
+use mathlib.Core.Bool.{Bool, true, false, _&&_}
+use mathlib.Core.List.{[], _∷_, map}
+use Prim.Native.Nat.{ℕ, zero, suc, _+_, _*_, _-_, _/_, _%_, _^_, _<_, _≤_}
+use native.Mathlib.Omega.{arith}
+use native.Mathlib.Nat.{add-zero, zero-add}
+use native.Mathlib.Decide.{decLt}
+use lib.Dec.{eqb, ltb, leb}
+use lib.ListN.{length, getD, length-append}
+use borrow.Author.Tests.{leb-true, ltb-true, eq-eqb, ne-eqb}
+use Rattle.laws.specs.Search.{pick}
+use Rattle.laws.specs.Units.{Kind}
+use Rattle.laws.specs.Shapes.{Layout, many, shape, gap}
+use Rattle.laws.specs.Spelling.{counted as upFrom}
+use Rattle.laws.proofs.Finite.{both-left, both-right, each-at, From}
+use Rattle.laws.proofs.Arms.{Off, stretch}
+use Rattle.laws.proofs.Shapes.{add-shape}
+use Rattle.tables.specs.Alphabet.{bitsOf}
+use Rattle.tables.specs.Code39.{table42, chars39, alphabet39, star39}
+use Rattle.tables.specs.TwoOfFive.{industrialStart, industrialStop, interleavedStart, interleavedStop, matrixEnds}
+use Rattle.tables.specs.Ean.{guard, centre}
+use Rattle.units.specs.Plans.{code39, codabar, industrial, interleaved, matrix, halves, plans, planOf, unitsOf}
+use Rattle.units.specs.Laid.{counted}
+use Rattle.units.proofs.Counted.{by-number}
+use Rattle.reads.specs.declared.kinds.Unit.{Unit}
+use Rattle.reads.specs.declared.kinds.Unit.the-variants.{Fixed, Char39, Letter, Inner, Industrial, Pair, Matrix, Odd, Left, Right}
+use Rattle.reads.specs.Held.{kindOf, partedUnit, pairedUnit, halvedUnit, unitsBy, unitOf, unitCounts, unitCount}
+use Rattle.reads.proofs.Widths.{widthOf}
+
+pub past-nine : (s : ℕ) → 3 ≤ s → Off (9 ∷ 8 ∷ 7 ∷ 6 ∷ 5 ∷ 4 ∷ 3 ∷ []) s → 10 ≤ s
+past-nine s h o = go (decLt s 10)
+  where
+    go : Dec (s < 10) → 10 ≤ s
+    go (yes l) =
+        let e : false ≡ true = stretch (9 ∷ 8 ∷ 7 ∷ 6 ∷ 5 ∷ 4 ∷ 3 ∷ []) 3 7 (λ b. false) refl s h l o in
+        let z : _≡_ {A = ℕ} 0 1 = cc in
+        omega arith
+    go (no l) = omega arith
+
+-- ---- the fixed patterns
+
+abbrev small : Unit → Bool
+small (Fixed k c) = leb k 9 && ltb c (2 ^ k)
+small Char39 = true
+small Letter = true
+small Inner = true
+small Industrial = true
+small Pair = true
+small Matrix = true
+small Odd = true
+small Left = true
+small Right = true
+
+abbrev tight : Unit → Bool
+tight u = ltb 0 (widthOf u) && small u
+
+abbrev Tight : (ℕ → ℕ → Unit) → Type 0
+Tight f = (units left : ℕ) → tight (f units left) ≡ true
+
+either : (b : Bool) (u v : Unit) → tight u ≡ true → tight v ≡ true → tight (pick b u v) ≡ true
+either true u v p q = p
+either false u v p q = q
+
+tight-parted : (a c z : Unit) → tight a ≡ true → tight c ≡ true → tight z ≡ true → Tight (partedUnit a c z)
+tight-parted a c z p q r units left = either (eqb left units) a _ p (either (eqb left 1) z _ r (either (eqb (left % 2) (units % 2)) c _ q refl))
+
+tight-paired : Tight pairedUnit
+tight-paired units left = either (eqb left units) _ _ refl (either (eqb left 1) _ _ refl refl)
+
+tight-halved : (half : Unit) → tight half ≡ true → Tight (halvedUnit half)
+tight-halved half p units left =
+    either (eqb left units) _ _ refl
+    (either (eqb left 1) _ _ refl (either (eqb left (units / 2 + 1)) _ _ refl (either (ltb (units / 2 + 1) left) half _ p refl)))
+
+tight-unit : (s : ℕ) → Tight (unitOf s)
+unfolding unitOf unitsBy
+tight-unit =
+    each-at Tight unitsBy (halvedUnit Odd) (
+      tight-halved Odd refl,
+      (
+        tight-parted _ _ _ refl refl refl,
+        (
+          tight-parted _ _ _ refl refl refl,
+          (tight-parted _ _ _ refl refl refl, (tight-parted _ _ _ refl refl refl, (tight-paired, (tight-parted _ _ _ refl refl refl, (tight-halved Left refl, tt))))),
+        ),
+      ),
+    )
+    (tight-halved Odd refl)
+
+pub unit-some : (s units left : ℕ) → 0 < widthOf (unitOf s units left)
+unit-some s units left = let u : Unit = unitOf s units left in ltb-true 0 (widthOf u) (both-left (ltb 0 (widthOf u)) (small u) (tight-unit s units left))
+
+pub fixed-small : (s units left k c : ℕ) → unitOf s units left ≡ Fixed k c → (k ≤ 9) × (c < 2 ^ k)
+fixed-small s units left k c e =
+    let t : (leb k 9 && ltb c (2 ^ k)) ≡ true = both-right (ltb 0 k) (leb k 9 && ltb c (2 ^ k)) (rw e at (tight-unit s units left)) in
+    (leb-true k 9 (both-left (leb k 9) (ltb c (2 ^ k)) t), ltb-true c (2 ^ k) (both-right (leb k 9) (ltb c (2 ^ k)) t))
+
+-- ---- as many units
+
+abbrev Long : ℕ → Type 0
+Long s = (n : ℕ) → length (unitsOf s n) ≡ unitCount s n
+
+kinds-length : (l : Layout) (n : ℕ) → length (shape l n) ≡ length (l .head) + (n * length (l .group) + length (l .tail))
+kinds-length = add-shape length length-append
+
+long : From Long 1 9
+unfolding unitsOf planOf plans code39 codabar industrial interleaved matrix halves unitCount unitCounts
+long = (
+  λ n. omega (arith, kinds-length code39 n),
+  (
+    λ n. omega (arith, kinds-length code39 n),
+    (
+      λ n. omega (arith, kinds-length codabar (n - 2)),
+      (
+        λ n. omega (arith, kinds-length industrial n),
+        (λ n. omega (arith, kinds-length interleaved (n / 2)), (λ n. omega (arith, kinds-length matrix n), (λ n. refl, (λ n. refl, (λ n. refl, tt))))),
+      ),
+    ),
+  ),
+)
+
+pub unit-length : (s n : ℕ) → counted s n ≡ true → length (unitsOf s n) ≡ unitCount s n
+unit-length s n e = by-number Long long s n e n
+
+-- ---- which unit
+
+module _ (a c z : Unit) where
+  abbrev partedLayout : Layout
+  partedLayout = record { head = kindOf a ∷ gap ∷ []; group = kindOf c ∷ gap ∷ []; tail = kindOf z ∷ [] }
+
+  abbrev behind : ℕ → Unit
+  behind left = pick (eqb left 1) z (pick (eqb (left % 2) 1) c (Fixed 1 0))
+
+  -- behind the start, by how many are left
+  parted-behind : (n v : ℕ) → v < 2 * n + 1 → getD (many n (partedLayout .group) (partedLayout .tail)) v gap ≡ kindOf (behind (2 * n + 1 - v))
+  parted-behind zero zero h = refl
+  parted-behind zero (suc v) h = absurd (omega arith)
+  parted-behind (suc n) zero h = rw (ne-eqb (2 * suc n + 1 - 0) 1 (omega arith), eq-eqb ((2 * suc n + 1 - 0) % 2) 1 (omega arith))
+  parted-behind (suc n) (suc zero) h = rw (ne-eqb (2 * suc n + 1 - 1) 1 (omega arith), ne-eqb ((2 * suc n + 1 - 1) % 2) 1 (omega arith))
+  parted-behind (suc n) (suc (suc v)) h =
+      let e : 2 * suc n + 1 - suc (suc v) ≡ 2 * n + 1 - v = omega arith in
+      rw e (parted-behind n v (omega arith))
+
+  parted-kind : (n u : ℕ) → u < 2 * n + 3 → getD (shape partedLayout n) u gap ≡ kindOf (partedUnit a c z (2 * n + 3) (2 * n + 3 - u))
+  parted-kind n zero h = rw (eq-eqb (2 * n + 3 - 0) (2 * n + 3) (omega arith))
+  parted-kind n (suc zero) h =
+      let odd : (2 * n + 3) % 2 ≡ 1 = omega arith in
+      rw (odd, ne-eqb (2 * n + 3 - 1) (2 * n + 3) (omega arith), ne-eqb (2 * n + 3 - 1) 1 (omega arith), ne-eqb ((2 * n + 3 - 1) % 2) 1 (omega arith))
+  parted-kind n (suc (suc v)) h =
+      let odd : (2 * n + 3) % 2 ≡ 1 = omega arith in
+      let e : 2 * n + 3 - suc (suc v) ≡ 2 * n + 1 - v = omega arith in
+      rw (odd, e, ne-eqb (2 * n + 1 - v) (2 * n + 3) (omega arith)) (parted-behind n v (omega arith))
+
+paired-behind : (m v : ℕ) → v < m + 1 → getD (many m (kindOf Pair ∷ []) (kindOf (Fixed 3 4) ∷ [])) v gap ≡ kindOf (pick (eqb (m + 1 - v) 1) (Fixed 3 4) Pair)
+paired-behind zero zero h = refl
+paired-behind zero (suc v) h = absurd (omega arith)
+paired-behind (suc m) zero h = rw (ne-eqb (suc m + 1 - 0) 1 (omega arith))
+paired-behind (suc m) (suc v) h = let e : suc m + 1 - suc v ≡ m + 1 - v = omega arith in rw e (paired-behind m v (omega arith))
+
+abbrev pairedLayout : Layout
+pairedLayout = record { head = kindOf (Fixed 4 0) ∷ []; group = kindOf Pair ∷ []; tail = kindOf (Fixed 3 4) ∷ [] }
+
+paired-kind : (m u : ℕ) → u < m + 2 → getD (shape pairedLayout m) u gap ≡ kindOf (pairedUnit (m + 2) (m + 2 - u))
+paired-kind m zero h = rw (eq-eqb (m + 2 - 0) (m + 2) (omega arith))
+paired-kind m (suc v) h =
+    let e : m + 2 - suc v ≡ m + 1 - v = omega arith in
+    rw (e, ne-eqb (m + 1 - v) (m + 2) (omega arith)) (paired-behind m v (omega arith))
+
+-- all units written out, by their number
+written-at : (f : ℕ → Kind) (i n u : ℕ) → u < n → getD (map f (upFrom i n)) u gap ≡ f (i + u)
+written-at f i zero u h = absurd (omega arith)
+written-at f i (suc n) zero h = rw add-zero
+written-at f i (suc n) (suc u) h = let e : suc i + u ≡ i + suc u = omega arith in written-at f (suc i) n u (omega arith) ∙ ap f e
+
+written-kind : (f : ℕ → Unit) (units u : ℕ) → u < units → getD (map (λ u. kindOf (f (units - u))) (upFrom 0 units)) u gap ≡ kindOf (f (units - u))
+written-kind f units u h = rw zero-add at (written-at (λ u. kindOf (f (units - u))) 0 units u h)
+
+abbrev Stands : ℕ → Type 0
+Stands s = (n u : ℕ) → u < unitCount s n → getD (unitsOf s n) u gap ≡ kindOf (unitOf s (unitCount s n) (unitCount s n - u))
+
+stands : From Stands 1 9
+unfolding unitsOf planOf plans code39 codabar industrial interleaved matrix halves star39 bitsOf alphabet39 chars39 table42 industrialStart industrialStop interleavedStart interleavedStop matrixEnds guard centre unitOf unitsBy unitCount unitCounts
+stands = (
+  parted-kind (Fixed 9 148) Char39 (Fixed 9 148),
+  (
+    parted-kind (Fixed 9 148) Char39 (Fixed 9 148),
+    (
+      λ n. parted-kind Letter Inner Letter (n - 2),
+      (
+        parted-kind (Fixed 5 20) Industrial (Fixed 5 17),
+        (
+          λ n. paired-kind (n / 2),
+          (parted-kind (Fixed 5 16) Matrix (Fixed 5 16), (λ n. written-kind (unitOf 7 15) 15, (λ n. written-kind (unitOf 8 11) 11, (λ n. written-kind (unitOf 9 15) 15, tt)))),
+        ),
+      ),
+    ),
+  ),
+)
+
+pub unit-kind : (s n u : ℕ) → counted s n ≡ true → u < unitCount s n → getD (unitsOf s n) u gap ≡ kindOf (unitOf s (unitCount s n) (unitCount s n - u))
+unit-kind s n u e = by-number Stands stands s n e n u

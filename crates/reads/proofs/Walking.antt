@@ -1,0 +1,127 @@
+-- The walk is the reading of the strip's units: it ends with none left and every row number gathered, or at the first element of
+-- the first unit that is in no row.
+--
+--   Under       every number of a list is below 100
+--   Ended       how a walk ends, by what is read
+--   walked      a walk over the kinds of any units, from any place on
+--   walk-read   the walk over a strip of n characters
+--
+-- Assumes nothing.
+use mathlib.Core.Path.{_≡_, refl, sym, subst}
+use mathlib.Core.Bool.{Bool, true, false}
+use mathlib.Core.List.{List, [], _∷_, _++_, append-nil, append-assoc}
+use Prim.Native.Nat.{ℕ, zero, suc, _+_, _-_, _<_, _≤_}
+use native.Mathlib.Omega.{arith}
+use lib.Dec.{ltb, leb, lit≤}
+use lib.ListN.{length, getD, take, drop, length-append}
+use lib.Seq.{drop-drop}
+use borrow.Author.Tests.{ltb-true, leb-true}
+use Rattle.laws.specs.Search.{pick}
+use Rattle.laws.specs.Elements.{find}
+use Rattle.laws.specs.Units.{Kind, fixed, free, rows, width, frees, Reading, found, stopped, push, next, readAt, read}
+use Rattle.laws.specs.Shapes.{gap}
+use Rattle.laws.proofs.Finite.{upto, upto-at}
+use Rattle.tables.specs.Alphabet.{rowsOf}
+use Rattle.tables.specs.Code39.{rows39, alphabet39, chars39}
+use Rattle.tables.specs.Codabar.{innerRows, letterRows, alphabetCodabar, table41}
+use Rattle.tables.specs.TwoOfFive.{industrialRows, interleavedRows, matrixRows, digitRows, alphabetDigits, table44}
+use Rattle.tables.specs.Ean.{oddRows, evenRows, leftRows, rightRows, patterns, table52}
+use Rattle.units.specs.Plans.{code39, codabar, industrial, interleaved, matrix, halves, plans, planOf, unitsOf}
+use Rattle.units.specs.Laid.{counted}
+use Rattle.units.proofs.Counted.{counted-few, known}
+use Rattle.reads.specs.declared.kinds.Unit.{Unit}
+use Rattle.reads.specs.declared.kinds.Unit.the-variants.{Fixed, Char39, Letter, Inner, Industrial, Pair, Matrix, Odd, Left, Right}
+use Rattle.reads.specs.declared.search.Found.the-variants.{NoRow}
+use Rattle.reads.specs.declared.gather.Gathered.{Gathered}
+use Rattle.reads.specs.declared.walk.Walked.{Walked}
+use Rattle.reads.specs.Seen.{elementPlace}
+use Rattle.reads.specs.Held.{kindOf, unitOf, unitCount, stood, unitAt, noneSeen, takenOf, stop, onward, walkFrom}
+use Rattle.reads.proofs.Gathering.{Gathers, none-gathers, taken-gathers}
+use Rattle.reads.proofs.Numbered.{unit-length, unit-kind}
+
+abbrev pub Under : List ℕ → Type 0
+Under cs = (i : ℕ) → getD cs i 0 < 100
+
+under-none : Under []
+under-none i = omega arith
+
+under-more : (cs : List ℕ) (c : ℕ) → Under cs → c < 100 → Under (cs ++ c ∷ [])
+under-more [] c u h zero = h
+under-more [] c u h (suc i) = omega arith
+under-more (d ∷ cs) c u h zero = u 0
+under-more (d ∷ cs) c u h (suc i) = under-more cs c (λ j. u (suc j)) h i
+
+abbrev pub Ended : Reading → Walked → List ℕ → Type 0
+Ended (found ds) w cs = (w .left ≡ 0) × (Gathers (w .gathered) (cs ++ ds) × Under (cs ++ ds))
+Ended (stopped at) w cs = (0 < w .left) × (w .at .0 ≡ at)
+
+ended-push : (z : Reading) (w : Walked) (cs : List ℕ) (c : ℕ) → Ended z w (cs ++ c ∷ []) → Ended (push c z) w cs
+ended-push (found ds) w cs c e = rw (append-assoc cs (c ∷ []) ds) at e
+ended-push (stopped at) w cs c e = e
+
+-- every set has at most a hundred rows
+few-rows : (u : Unit) → length (rows (kindOf u)) ≤ 100
+unfolding rows39 letterRows innerRows industrialRows interleavedRows matrixRows digitRows oddRows evenRows leftRows rightRows rowsOf alphabet39 chars39 alphabetCodabar table41 alphabetDigits table44 patterns table52
+few-rows (Fixed k c) = lit≤ tt
+few-rows Char39 = lit≤ tt
+few-rows Letter = lit≤ tt
+few-rows Inner = lit≤ tt
+few-rows Industrial = lit≤ tt
+few-rows Pair = lit≤ tt
+few-rows Matrix = lit≤ tt
+few-rows Odd = lit≤ tt
+few-rows Left = lit≤ tt
+few-rows Right = lit≤ tt
+
+-- one unit, and then the rest
+module _ (at : ℕ) (g : Gathered) (cs : List ℕ) (gs : Gathers g cs) (u : Under cs) (rest : ℕ → Gathered → Walked) (z : Reading) (n : ℕ) where
+  step : (b : Bool) (k : Kind) (c : ℕ) (ks : List Kind) → (b ≡ true → c < 100) → length cs + frees (k ∷ ks) ≤ 40
+      → ((h : Gathered) (ds : List ℕ) → length ds + frees ks ≤ 40 → Gathers h ds → Under ds → Ended z (rest (at + width k) h) ds)
+      → Ended (next b k c at z) (onward (pick b (stood k c (elementPlace (at + width k))) NoRow) rest g (stop g at (suc n))) cs
+  step true (fixed r) c ks h l ih = ih g cs l gs u
+  step true (free rs) c ks h l ih =
+      let low : c < 100 = h refl in
+      let long : length (cs ++ c ∷ []) + frees ks ≤ 40 = omega (arith, length-append cs (c ∷ [])) in
+      ended-push z _ cs c (ih (takenOf g c) (cs ++ c ∷ []) long (taken-gathers g cs c gs (omega arith) (omega arith)) (under-more cs c u low))
+  step false k c ks h l ih = (omega arith, refl)
+
+-- the kinds of the units left, by their number: `unitOf` says which
+abbrev Kinds : ℕ → ℕ → List Kind → Type 0
+Kinds s units ks = (j : ℕ) → j < length ks → getD ks j gap ≡ kindOf (unitOf s units (length ks - j))
+
+none-off : (n : ℕ) → n - 0 ≡ n
+none-off n = omega arith
+
+one-off : (n j : ℕ) → suc n - suc j ≡ n - j
+one-off n j = omega arith
+
+pub walked : (s units : ℕ) (t : List ℕ) (ks : List Kind) → Kinds s units ks → (at : ℕ) (g : Gathered) (cs : List ℕ) → length cs + frees ks ≤ 40 → Gathers g cs → Under cs
+    → Ended (readAt ks at (drop at t)) (walkFrom s units t (length ks) at g) cs
+unfolding unitAt
+walked s units t [] is at g cs l gs u = (refl, (rw append-nil gs, rw append-nil u))
+walked s units t (k ∷ ks) is at g cs l gs u =
+    let e : k ≡ kindOf (unitOf s units (suc (length ks))) = subst (λ (x : ℕ). k ≡ kindOf (unitOf s units x)) (none-off (suc (length ks))) (is 0 (omega arith)) in
+    let c : ℕ = find (rows k) (take (width k) (drop at t)) in
+    let more : Kinds s units ks = λ j h. subst (λ (x : ℕ). getD ks j gap ≡ kindOf (unitOf s units x)) (one-off (length ks) j) (is (suc j) (omega arith)) in
+    let low : ltb c (length (rows k)) ≡ true → c < 100
+    = λ b. omega (arith, ltb-true c (length (rows k)) b, subst (λ (x : Kind). length (rows x) ≤ 100) (sym e) (few-rows (unitOf s units (suc (length ks))))) in
+    rw (← e, drop-drop)
+    (step at g cs gs u (walkFrom s units t (length ks)) (readAt ks (at + width k) (drop (at + width k) t)) (length ks) (ltb c (length (rows k))) k c ks low l
+    (λ h ds m hs v. walked s units t ks more (at + width k) h ds m hs v))
+
+-- at most 34 of a strip's units are free
+frees-test : upto 10 (λ s. upto 35 (λ n. leb (frees (unitsOf s n)) 40)) ≡ true
+unfolding unitsOf planOf plans code39 codabar industrial interleaved matrix halves
+frees-test = refl
+
+few-frees : (s n : ℕ) → counted s n ≡ true → frees (unitsOf s n) ≤ 40
+few-frees s n e =
+    leb-true (frees (unitsOf s n)) 40
+    (upto-at 35 (λ n. leb (frees (unitsOf s n)) 40) (upto-at 10 (λ s. upto 35 (λ n. leb (frees (unitsOf s n)) 40)) frees-test s (known s n e .1)) n
+    (omega (arith, counted-few s n e)))
+
+pub walk-read : (s n : ℕ) (t : List ℕ) → counted s n ≡ true → Ended (read (unitsOf s n) t) (walkFrom s (unitCount s n) t (unitCount s n) 0 noneSeen) []
+walk-read s n t e =
+    let l : length (unitsOf s n) ≡ unitCount s n = unit-length s n e in
+    let is : Kinds s (unitCount s n) (unitsOf s n) = λ j h. rw l (unit-kind s n j e (rw (← l) h)) in
+    rw l at (walked s (unitCount s n) t (unitsOf s n) is 0 noneSeen [] (omega (arith, few-frees s n e)) none-gathers under-none)

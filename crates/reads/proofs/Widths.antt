@@ -1,0 +1,79 @@
+-- How many elements a unit has, and whether so many are left of a strip: where they are not, the unit is in no row.
+--
+--   widthOf   the elements of a unit, written out; wide, they are the width of what it may be
+--   long      each row of a unit has so many
+--   inside    a unit that reaches no further than the strip, as the searches ask for it
+--   outside   a unit that reaches past the strip's end is in no row
+--
+-- Assumes nothing.
+use mathlib.Core.Path.{_≡_, refl, ap}
+use mathlib.Core.Bool.{Bool, true, false, not}
+use mathlib.Core.List.{List, []}
+use Prim.Native.Nat.{ℕ, zero, suc, _+_, _<_, _≤_}
+use native.Mathlib.Omega.{arith}
+use lib.Dec.{leb}
+use lib.ListN.{length, getD, take, drop, length-take, length-drop}
+use borrow.Author.Tests.{leb-true, leb-false}
+use Rattle.laws.specs.Units.{rows, width}
+use Rattle.tables.specs.Alphabet.{rowsOf}
+use Rattle.tables.specs.Code39.{table42, chars39, alphabet39, rows39}
+use Rattle.tables.specs.Codabar.{table41, alphabetCodabar, innerRows, letterRows}
+use Rattle.tables.specs.TwoOfFive.{table44, alphabetDigits, digitRows, industrialRows, interleavedRows, matrixRows}
+use Rattle.tables.specs.Ean.{table52, patterns, oddRows, evenRows, leftRows, rightRows}
+use Rattle.tables.proofs.Good.{uniform39, good-inner, uniform-letter, uniform-industrial, uniform-interleaved, uniform-matrix, uniform-odd, uniform-left, uniform-right}
+use Rattle.reads.specs.declared.kinds.Unit.{Unit}
+use Rattle.reads.specs.declared.kinds.Unit.the-variants.{Fixed, Char39, Letter, Inner, Industrial, Pair, Matrix, Odd, Left, Right}
+use Rattle.reads.specs.declared.search.Found.the-variants.{NoRow}
+use Rattle.reads.specs.Held.{kindOf, unitAt}
+use Rattle.reads.proofs.Modules.{said, denied}
+use Rattle.reads.proofs.Packing.{length-spread, unit-none}
+
+abbrev pub widthOf : Unit → ℕ
+widthOf (Fixed k c) = k
+widthOf Char39 = 9
+widthOf Letter = 7
+widthOf Inner = 7
+widthOf Industrial = 9
+widthOf Pair = 10
+widthOf Matrix = 5
+widthOf Odd = 4
+widthOf Left = 4
+widthOf Right = 4
+
+pub wide : (u : Unit) → width (kindOf u) ≡ widthOf u
+unfolding rows39 alphabet39 chars39 table42 innerRows letterRows alphabetCodabar table41 industrialRows interleavedRows matrixRows digitRows alphabetDigits table44 oddRows evenRows leftRows rightRows patterns table52 rowsOf
+wide (Fixed k c) = length-spread k c
+wide Char39 = refl
+wide Letter = refl
+wide Inner = refl
+wide Industrial = refl
+wide Pair = refl
+wide Matrix = refl
+wide Odd = refl
+wide Left = refl
+wide Right = refl
+
+long : (u : Unit) (i : ℕ) → i < length (rows (kindOf u)) → length (getD (rows (kindOf u)) i []) ≡ widthOf u
+long (Fixed k c) zero h = length-spread k c
+long (Fixed k c) (suc i) h = absurd (omega arith)
+long Char39 i h = uniform39 .good .long i h
+long Letter i h = uniform-letter .good .long i h
+long Inner i h = good-inner .long i h
+long Industrial i h = uniform-industrial .good .long i h
+long Pair i h = uniform-interleaved .good .long i h
+long Matrix i h = uniform-matrix .good .long i h
+long Odd i h = uniform-odd .good .long i h
+long Left i h = uniform-left .good .long i h
+long Right i h = uniform-right .good .long i h
+
+-- r is what `reaches` answers for a unit of w elements
+pub inside : (at w n : ℕ) {r : Bool} {u v : Unit} → r ≡ leb (at + w) n → not r ≡ false → w ≡ width (kindOf u) → u ≡ v → at + widthOf v ≤ n
+inside at w n {r} {u} e h f q = rw (← q) (omega (arith, wide u, leb-true (at + w) n (said r _ e h)))
+
+pub outside : (u : Unit) (t : List ℕ) (at w : ℕ) (r : Bool) → r ≡ leb (at + w) (length t) → not r ≡ true → w ≡ width (kindOf u) → 0 < widthOf u
+    → NoRow ≡ unitAt (kindOf u) t at
+outside u t at w r e h f z =
+    let n : ℕ = widthOf u in
+    let past : length t < at + n = omega (arith, wide u, leb-false (at + w) (length t) (denied r _ e h)) in
+    let short : length (take n (drop at t)) < n = simp (length-take, length-drop) (omega arith) in
+    unit-none n t at (kindOf u) (wide u) refl (λ c l g. omega (arith, long u c l, ap length g))

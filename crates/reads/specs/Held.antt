@@ -1,0 +1,200 @@
+-- How reading stands in the structs and numbers of src/.
+--
+--   bitOf, strided, codeOf    an element as a bit, elements at equal steps, and the code that they pack to; 65535 where one of
+--                             them is neither narrow nor wide
+--   patternSeen    four elements as seven modules, the first a space; 0 where they are not seven
+--   kindOf         what a unit may be
+--   unitOf         which unit stands where so many of so many are left
+--   unitAt         the unit that stands at a place
+--   wordsIn, ofWords              rows gathered in words of eight
+--   noneSeen, takenOf, valueAt    none of them; one more; the one at an index
+--   walkFrom       the units left, read from a place on
+--   countFor       the count for which document 01's formula gives a length, whatever the mode; 0 where there is none
+--   unitCount      how many units a strip of n characters has
+use mathlib.Core.Bool.{Bool, _&&_}
+use mathlib.Core.List.{List, [], _∷_, map}
+use Prim.Native.Nat.{ℕ, zero, suc, _+_, _*_, _-_, _/_, _%_, _^_}
+use lib.Dec.{eqb, ltb, leb}
+use lib.ListN.{length, getD, take, drop, set}
+use Rattle.laws.specs.Search.{pick}
+use Rattle.laws.specs.Elements.{find}
+use Rattle.laws.specs.Units.{Kind, fixed, free, rows, width}
+use Rattle.words.specs.declared.ElementPlace.{ElementPlace}
+use Rattle.tables.specs.Bits.{spread, number}
+use Rattle.tables.specs.Code39.{rows39}
+use Rattle.tables.specs.Codabar.{innerRows, letterRows}
+use Rattle.tables.specs.TwoOfFive.{industrialRows, interleavedRows, matrixRows}
+use Rattle.tables.specs.Ean.{oddRows, leftRows, rightRows}
+use Rattle.reads.specs.declared.kinds.Unit.{Unit}
+use Rattle.reads.specs.declared.kinds.Unit.the-variants.{Fixed, Char39, Letter, Inner, Industrial, Pair, Matrix, Odd, Left, Right}
+use Rattle.reads.specs.declared.search.Found.{Found}
+use Rattle.reads.specs.declared.search.Found.the-variants.{Character, Passed, NoRow}
+use Rattle.reads.specs.declared.gather.Gathered.{Gathered}
+use Rattle.reads.specs.declared.walk.Walked.{Walked}
+use Rattle.reads.specs.Seen.{elementPlace}
+
+-- ---- elements as codes
+
+abbrev pub bitOf : ℕ → ℕ
+bitOf w = pick (eqb w 1) 0 (pick (eqb w 3) 1 65536)
+
+-- n elements, from number j on of those that stand `step` apart from `at` on
+abbrev pub strided : List ℕ → ℕ → ℕ → ℕ → ℕ → List ℕ
+strided t at step j zero = []
+strided t at step j (suc n) = getD t (at + step * j) 0 ∷ strided t at step (suc j) n
+
+abbrev pub small : ℕ → ℕ
+small code = pick (ltb code 65536) code 65535
+
+unfoldable pub codeOf : List ℕ → ℕ
+codeOf ws = small (number (map bitOf ws))
+
+abbrev pub inFour : ℕ → Bool
+inFour w = leb 1 w && leb w 4
+
+abbrev pub seven : ℕ → ℕ → ℕ → ℕ → Bool
+seven a b c d = (inFour a && inFour b) && (inFour c && inFour d) && eqb (a + b + c + d) 7
+
+-- a spaces, b bars, c spaces, d bars
+unfoldable pub patternSeen : ℕ → ℕ → ℕ → ℕ → ℕ
+patternSeen a b c d = pick (seven a b c d) (2 ^ (b + c + d) - 2 ^ (c + d) + 2 ^ d - 1) 0
+
+-- ---- units
+
+abbrev pub kindOf : Unit → Kind
+kindOf (Fixed k c) = fixed (spread k c)
+kindOf Char39 = free rows39
+kindOf Letter = free letterRows
+kindOf Inner = free innerRows
+kindOf Industrial = free industrialRows
+kindOf Pair = free interleavedRows
+kindOf Matrix = free matrixRows
+kindOf Odd = free oddRows
+kindOf Left = free leftRows
+kindOf Right = free rightRows
+
+abbrev pub partedUnit : Unit → Unit → Unit → ℕ → ℕ → Unit
+partedUnit start char stop units left =
+    pick (eqb left units) start (pick (eqb left 1) stop (pick (eqb (left % 2) (units % 2)) char (Fixed 1 0)))
+
+abbrev pub pairedUnit : ℕ → ℕ → Unit
+pairedUnit units left = pick (eqb left units) (Fixed 4 0) (pick (eqb left 1) (Fixed 3 4) Pair)
+
+abbrev pub halvedUnit : Unit → ℕ → ℕ → Unit
+halvedUnit half units left =
+    pick (eqb left units) (Fixed 3 0)
+    (pick (eqb left 1) (Fixed 3 0) (pick (eqb left (units / 2 + 1)) (Fixed 5 0) (pick (ltb (units / 2 + 1) left) half Right)))
+
+abbrev pub stars : ℕ → ℕ → Unit
+stars = partedUnit (Fixed 9 148) Char39 (Fixed 9 148)
+
+unfoldable pub unitsBy : List (ℕ → ℕ → Unit)
+unitsBy =
+    halvedUnit Odd
+    ∷ stars
+    ∷ stars
+    ∷ partedUnit Letter Inner Letter
+    ∷ partedUnit (Fixed 5 20) Industrial (Fixed 5 17)
+    ∷ pairedUnit
+    ∷ partedUnit (Fixed 5 16) Matrix (Fixed 5 16)
+    ∷ halvedUnit Left
+    ∷ []
+
+unfoldable pub unitOf : ℕ → ℕ → ℕ → Unit
+unitOf s units left = getD unitsBy s (halvedUnit Odd) units left
+
+abbrev pub stood : Kind → ℕ → ElementPlace → Found
+stood (fixed r) c next = Passed next
+stood (free k) c next = Character c next
+
+abbrev pub foundRow : Kind → ℕ → ℕ → Found
+foundRow k c at = pick (ltb c (length (rows k))) (stood k c (elementPlace (at + width k))) NoRow
+
+unfoldable pub unitAt : Kind → List ℕ → ℕ → Found
+unitAt k t at = foundRow k (find (rows k) (take (width k) (drop at t))) at
+
+-- ---- rows gathered, eight to a word
+
+abbrev pub wordsIn : Gathered → List ℕ
+wordsIn g = g .a ∷ g .b ∷ g .c ∷ g .d ∷ g .e ∷ []
+
+abbrev pub ofWords : List ℕ → ℕ → Gathered
+ofWords ws n = record { a = getD ws 0 0; b = getD ws 1 0; c = getD ws 2 0; d = getD ws 3 0; e = getD ws 4 0; len = n }
+
+unfoldable pub noneSeen : Gathered
+noneSeen = ofWords [] 0
+
+-- word w with v in its byte j, and nothing above
+abbrev pub wordWith : ℕ → ℕ → ℕ → ℕ
+wordWith w j v = w % 2 ^ (8 * j) + v * 2 ^ (8 * j)
+
+unfoldable pub takenOf : Gathered → ℕ → Gathered
+takenOf g v =
+    pick (ltb (g .len) 40)
+    (ofWords (set (wordsIn g) (g .len / 8) (wordWith (getD (wordsIn g) (g .len / 8) 0) (g .len % 8) v)) (g .len + 1))
+    g
+
+unfoldable pub valueAt : List ℕ → ℕ → ℕ
+valueAt words i = getD words (i / 8) 0 / 2 ^ (8 * (i % 8)) % 256
+
+-- ---- the walk
+
+abbrev pub stop : Gathered → ℕ → ℕ → Walked
+stop g at left = record { gathered = g; at = elementPlace at; left = left }
+
+-- what was found at a place, and then the rest
+abbrev pub onward : Found → (ℕ → Gathered → Walked) → Gathered → Walked → Walked
+onward (Character c next) go g none = go (next .0) (takenOf g c)
+onward (Passed next) go g none = go (next .0) g
+onward NoRow go g none = none
+
+abbrev pub walkFrom : ℕ → ℕ → List ℕ → ℕ → ℕ → Gathered → Walked
+walkFrom s units t zero at g = stop g at zero
+walkFrom s units t (suc n) at g =
+    let rest = walkFrom s units t n in
+    onward (unitAt (kindOf (unitOf s units (suc n))) t at) rest g (stop g at (suc n))
+
+-- ---- counts
+
+-- the count whose length is `least` for n = base, and `step` more for each character more
+abbrev pub steps : ℕ → ℕ → ℕ → ℕ → ℕ
+steps base least step long = pick (leb least long && eqb ((long - least) % step) 0) (base + (long - least) / step) 0
+
+abbrev pub only : ℕ → ℕ → ℕ → ℕ
+only n one long = pick (eqb long one) n 0
+
+unfoldable pub countsBy : List (ℕ → ℕ)
+countsBy =
+    (λ long. 0)
+    ∷ steps 0 19 10
+    ∷ steps 0 19 10
+    ∷ steps 1 7 8
+    ∷ steps 0 11 10
+    ∷ steps 0 7 5
+    ∷ steps 0 11 6
+    ∷ only 13 59
+    ∷ only 8 43
+    ∷ only 12 59
+    ∷ []
+
+unfoldable pub countFor : ℕ → ℕ → ℕ
+countFor s long = getD countsBy s (λ long. 0) long
+
+-- by symbology number: a start, a character and a space each, a stop, and a space behind the start; Codabar's letters are
+-- start and stop; pairs; halves
+unfoldable pub unitCounts : List (ℕ → ℕ)
+unitCounts =
+    (λ n. 0)
+    ∷ (λ n. 2 * n + 3)
+    ∷ (λ n. 2 * n + 3)
+    ∷ (λ n. 2 * (n - 2) + 3)
+    ∷ (λ n. 2 * n + 3)
+    ∷ (λ n. n / 2 + 2)
+    ∷ (λ n. 2 * n + 3)
+    ∷ (λ n. 15)
+    ∷ (λ n. 11)
+    ∷ (λ n. 15)
+    ∷ []
+
+unfoldable pub unitCount : ℕ → ℕ → ℕ
+unitCount s n = getD unitCounts s (λ n. 0) n

@@ -1,0 +1,99 @@
+// Strip to row: the second of the two translations, its reading half (document 01, "Units and working room").
+//
+// `row_seen` hands back the drawn characters of a strip, or turns it away with the first of 1, 2, 9, 10, 11 that applies. The
+// strip's length gives the count of characters and with it the units; they are tested left to right, and the first that is in no
+// row ends the walk.
+//
+//   counts      characters from a length, units from characters
+//   kinds       which unit stands where
+//   pack        a unit's elements packed to its code
+//   search      the plain core: the unit that stands at a place of the strip, by a search in its rows
+//   position    the reading position, a struct of slice and place, and thin functions over the core
+//   walk        the loop over units, which hands the position from unit to unit
+//   gather      the row numbers on the way
+//   chars       characters from row numbers
+mod chars;
+mod counts;
+mod gather;
+mod kinds;
+mod pack;
+mod position;
+mod search;
+mod walk;
+
+use rows::Row;
+use rows::Rowed;
+use rows::Verdict;
+use words::Answer;
+ghost use mathlib.Core.Path.{_≡_};
+ghost use mathlib.Core.Bool.{true};
+ghost use Prim.Native.Nat.{ℕ, _<_, _≤_};
+ghost use Rattle.laws.specs.Units.{read};
+ghost use Rattle.rows.specs.declared.drawing.Verdict.the-variants.{Given};
+ghost use Rattle.rows.specs.Rows.{turned};
+ghost use Rattle.rows.specs.Held.{told};
+ghost use Rattle.units.specs.Plans.{unitsOf};
+ghost use Rattle.units.specs.Laid.{counted};
+ghost use Rattle.reads.specs.Seen.{rowFrom, shown, rowSeen};
+ghost use Rattle.reads.specs.Held.{valueAt};
+
+// The row of a strip.
+pub fn row_seen(symbology: u8, mode: u8, strip: &[u8]) -> Rowed
+    ensures { λ r. ⌜ r ≡ told (rowSeen symbology mode (now (strip .entry))) ⌝ }
+{
+    let n = counts::count_for(symbology, strip.len());
+    match rows::judge_count(symbology, mode, n) {
+        Verdict::Turned(answer) => turn_away(answer),
+        Verdict::Given => read_strip(symbology, n, strip),
+    }
+}
+
+// 10, 11, or the row of n characters.
+fn read_strip(symbology: u8, n: usize, strip: &[u8]) -> Rowed
+    requires { ⌜ counted symbology n ≡ true ⌝ }
+    ensures { λ r. ⌜ r ≡ told (shown symbology n (read (unitsOf symbology n) (now (strip .entry)))) ⌝ }
+{
+    let walked = walk::read_units(strip, symbology, counts::unit_count(symbology, n));
+    let at = walked.at;
+    if 0 < walked.left {
+        return turn_away(Answer::NoSuchUnit(at));
+    }
+    let gathered = walked.gathered;
+    judge(symbology, n, gather::words_of(gathered))
+}
+
+// 11, or the row.
+fn judge(symbology: u8, n: usize, words: [u64; 5]) -> Rowed
+    requires { ⌜ ((i : ℕ) → valueAt words i < 100) × (n ≤ 34) ⌝ }
+    ensures { λ r. ⌜ r ≡ told (rowFrom symbology n (valueAt words)) ⌝ }
+{
+    if symbology == 7 {
+        let first = tables::ean::first_digit(chars::parities(words));
+        if 9 < first {
+            return turn_away(Answer::NoSuchParities);
+        }
+        return give(chars::row_back(symbology, n, words, first));
+    }
+    give(chars::row_back(symbology, n, words, 0))
+}
+
+fn give(row: Row) -> Rowed
+    ensures { λ r. ⌜ r ≡ record { verdict = Given; row = row } ⌝ }
+{
+    Rowed {
+        verdict: Verdict::Given,
+        row,
+    }
+}
+
+fn turn_away(answer: Answer) -> Rowed
+    ensures { λ r. ⌜ r ≡ told (turned answer) ⌝ }
+{
+    Rowed {
+        verdict: Verdict::Turned(answer),
+        row: Row {
+            codes: [0; 34],
+            len: 0,
+        },
+    }
+}
