@@ -1,4 +1,6 @@
 pub mod Characters
+pub mod Choices
+pub mod Exact
 pub mod Gathering
 pub mod Hand
 pub mod Lengths

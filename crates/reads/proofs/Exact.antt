@@ -1,0 +1,113 @@
+-- Strips and rows: what is drawn is seen, and what is seen is the strip of just the row that is given.
+--
+--   unit-widths   the elements of the units are those of the table, for every count of the symbology
+--   seen-is       where a mode gives n characters, a strip of their length shows what its units read
+--   read-own      the units of a ready row's strip read its choices
+--   drawn-seen    a row that is drawn is seen in its strip
+--   by-choices, by-reading    a row that a reading shows is ready, and what was read is its strip
+--   seen-drawn    so it is for every row that is seen
+--
+-- Assumes nothing.
+use mathlib.Core.Path.{_≡_, refl, sym, ap, _∙_}
+use mathlib.Core.Bool.{Bool, true, false}
+use mathlib.Core.List.{List}
+use Prim.Native.Nat.{ℕ, _<_}
+use native.Mathlib.Omega.{arith}
+use lib.Dec.{eqb}
+use lib.ListN.{length}
+use borrow.Author.Tests.{lt-ltb, eqb-true}
+use Rattle.laws.specs.Search.{pick}
+use Rattle.laws.specs.Units.{Kind, Fits, Reading, found, stopped, read, widths, strip}
+use Rattle.laws.proofs.Finite.{upto, upto-at}
+use Rattle.laws.proofs.Strips.{strip-read, read-strip}
+use Rattle.words.specs.declared.Answer.the-variants.{NoSuchParities}
+use Rattle.tables.specs.Alphabet.{bitsOf, rowsOf}
+use Rattle.tables.specs.Code39.{table42, chars39, alphabet39, rows39, star39}
+use Rattle.tables.specs.Codabar.{table41, alphabetCodabar, innerRows, letterRows}
+use Rattle.tables.specs.TwoOfFive.{table44, alphabetDigits, digitRows, industrialRows, industrialStart, industrialStop, interleavedRows, interleavedStart, interleavedStop, matrixRows, matrixEnds}
+use Rattle.tables.specs.Ean.{table52, patterns, oddRows, evenRows, leftRows, rightRows, guard, centre}
+use Rattle.rows.specs.Limits.{offered}
+use Rattle.rows.specs.Symbologies.{symbologies, symbologyOf}
+use Rattle.rows.specs.Rows.{gives, drawable, rowOf}
+use Rattle.rows.proofs.Undo.{Reads, reads, undo, past-turned}
+use Rattle.units.specs.Plans.{code39, codabar, industrial, interleaved, matrix, halves, plans, planOf, unitsOf, stripOf}
+use Rattle.units.specs.Totals.{totals, elementsOf}
+use Rattle.units.specs.Laid.{counted, allAllowed, ready}
+use Rattle.units.proofs.Counted.{counted-few, known}
+use Rattle.units.proofs.Ready.{drawn-ready, ready-counted, ready-fits, all-good}
+use Rattle.units.proofs.Totals.{elements}
+use Rattle.reads.specs.Seen.{unlike, charsOf, rowFrom, shown, countOf, seen, rowSeen}
+use Rattle.reads.specs.Held.{countFor}
+use Rattle.reads.proofs.Lengths.{drawn-counted, same-count, count-fits}
+use Rattle.reads.proofs.Shown.{Shown, shown-row}
+use Rattle.reads.proofs.Choices.{shows, Turns, turns}
+
+-- ---- the elements of the units
+
+abbrev wide : ℕ → ℕ → Bool
+wide s n = pick (counted s n) (eqb (widths (unitsOf s n)) (elementsOf s n)) true
+
+all-wide : upto 10 (λ s. upto 35 (λ n. wide s n)) ≡ true
+unfolding counted symbologyOf symbologies elementsOf totals unitsOf planOf plans code39 codabar industrial interleaved matrix halves rows39 star39 innerRows letterRows industrialRows industrialStart industrialStop interleavedRows interleavedStart interleavedStop matrixRows matrixEnds digitRows oddRows evenRows leftRows rightRows guard centre rowsOf bitsOf alphabet39 chars39 table42 alphabetCodabar table41 alphabetDigits table44 patterns table52
+all-wide = refl
+
+unit-widths : (s n : ℕ) → counted s n ≡ true → widths (unitsOf s n) ≡ elementsOf s n
+unit-widths s n e =
+    let t : wide s n ≡ true
+    = upto-at 35 (λ n. wide s n) (upto-at 10 (λ s. upto 35 (λ n. wide s n)) all-wide s (known s n e .1)) n (omega (arith, counted-few s n e)) in
+    eqb-true (widths (unitsOf s n)) (elementsOf s n) (rw e at t)
+
+-- ---- what a strip of n characters shows
+
+seen-is : (s m n : ℕ) (t : List ℕ) → symbologyOf s .limits .known ≡ true → offered (symbologyOf s .limits) m ≡ true → drawable (symbologyOf s) m n ≡ true
+    → elementsOf s n ≡ length t → rowSeen s m t ≡ shown s n (read (unitsOf s n) t)
+unfolding rowSeen seen
+seen-is s m n t k o d e =
+    let c : counted s n ≡ true = drawn-counted s m n o d in
+    let f : countFor s (length t) ≡ n = rw (← e) (same-count s n c) in
+    let g : countOf s m (length t) ≡ n = count-fits s m (length t) o (rw f d) ∙ f in
+    let l : n < 35 = omega (arith, counted-few s n c) in
+    rw (k, o, g, lt-ltb n 35 l)
+
+-- ---- drawn and seen
+
+read-own : (s : ℕ) (r : List ℕ) → ready s r ≡ true → read (unitsOf s (length r)) (stripOf s r) ≡ found (planOf s .choices r)
+unfolding stripOf
+read-own s r h = strip-read (unitsOf s (length r)) (planOf s .choices r) 0 (all-good s (length r)) (ready-fits s r h)
+
+pub drawn-seen : (s m : ℕ) (d r : List ℕ) → rowOf s m d ≡ gives r → rowSeen s m (stripOf s r) ≡ gives r
+drawn-seen s m d r e =
+    let a : Reads s m d r = reads s m d r (undo s m d r .0 e) in
+    let h : ready s r ≡ true = drawn-ready s m d r e in
+    let c : counted s (length r) ≡ true = ready-counted s r h in
+    let w : Turns s = turns s (length r) c in
+    let p : drawable (symbologyOf s) m (length r) ≡ true = rw (a .count, a .paired) in
+    let i : charsOf s (length r) (shows (planOf s .choices r)) ≡ r = w .chars (length r) (planOf s .choices r) c (ready-fits s r h) ∙ w .there r h in
+    seen-is s m (length r) (stripOf s r) (a .known) (a .offers) p (sym (elements s r h))
+    ∙ ap (shown s (length r)) (read-own s r h) ∙ rw (w .like r h, i)
+
+-- ---- seen and drawn
+
+module _ (s : ℕ) (t r : List ℕ) (c : counted s (length r) ≡ true) (l : elementsOf s (length r) ≡ length t) where
+  by-choices : (cs : List ℕ) → read (unitsOf s (length r)) t ≡ found cs → rowFrom s (length r) (shows cs) ≡ gives r → (ready s r ≡ true) × (stripOf s r ≡ t)
+  unfolding ready stripOf
+  by-choices cs p q =
+      let ks : List Kind = unitsOf s (length r) in
+      let w : Turns s = turns s (length r) c in
+      let f : Fits ks cs × (strip ks cs ≡ t) = read-strip ks cs 0 t (sym (unit-widths s (length r) c ∙ l)) p in
+      let u : (unlike s (shows cs) ≡ false) × (gives (charsOf s (length r) (shows cs)) ≡ gives r) = past-turned (unlike s (shows cs)) NoSuchParities _ r q in
+      let g : charsOf s (length r) (shows cs) ≡ r = cc in
+      let i : r ≡ w .back cs = sym g ∙ w .chars (length r) cs c (f .0) in
+      let a : allAllowed s true r ≡ true = ap (allAllowed s true) i ∙ w .allows (length r) cs c (f .0) (u .0) in
+      let e : planOf s .choices r ≡ cs = ap (planOf s .choices) i ∙ w .again (length r) cs c (f .0) (u .0) in
+      (rw (c, a), rw e (f .1))
+
+  by-reading : (z : Reading) → read (unitsOf s (length r)) t ≡ z → shown s (length r) z ≡ gives r → (ready s r ≡ true) × (stripOf s r ≡ t)
+  by-reading (found cs) p q = by-choices cs p q
+  by-reading (stopped at) p q = let z : _≡_ {A = ℕ} 0 1 = cc in absurd (omega arith)
+
+pub seen-drawn : (s m : ℕ) (t r : List ℕ) → rowSeen s m t ≡ gives r → (ready s r ≡ true) × (stripOf s r ≡ t)
+seen-drawn s m t r e =
+    let w : Shown s m t r = shown-row s m t r e in
+    by-reading s t r (drawn-counted s m (length r) (w .offers) (w .can)) (w .long) (read (unitsOf s (length r)) t) refl
+    (sym (seen-is s m (length r) t (w .known) (w .offers) (w .can) (w .long)) ∙ e)
