@@ -1,3 +1,5 @@
-pub mod Fields
 pub mod Calls
+pub mod Fields
+pub mod Hands
 pub mod Only
+pub mod Sums

@@ -10,6 +10,8 @@ use Rattle.strip.proofs.draw.Reads as Draw
 use Rattle.strip.proofs.draw.Kinds as DrawKinds
 use Rattle.strip.proofs.draw_field.Reads as DrawField
 use Rattle.strip.proofs.draw_field.Kinds as DrawFieldKinds
+use Rattle.strip.proofs.read.Reads as ReadStrip
+use Rattle.strip.proofs.read.Kinds as ReadStripKinds
 
 pub draw : One 2 DrawKinds.ps DrawKinds.r Draw.Learnt
 draw κs a p q x y h k = only (h .0) (k .0)
@@ -24,3 +26,10 @@ draw-field κs a p q x y h k = only (h .0) (k .0)
 pub draw-field-buffer : (κs : Lfts 2) (a : Dens κs DrawFieldKinds.ps) (p q : resT DrawFieldKinds.r κs .Denot) (x y : AtExit (endedOf 2 DrawFieldKinds.ps DrawFieldKinds.r) κs)
     → DrawField.Learnt κs a p x → DrawField.Learnt κs a q y → x .1 .1 .1 .1 .0 .now ≡ y .1 .1 .1 .1 .0 .now
 draw-field-buffer κs a p q x y h k = only (h .1) (k .1)
+
+pub read : One 2 ReadStripKinds.ps ReadStripKinds.r ReadStrip.Learnt
+read κs a p q x y h k = only (h .0) (k .0)
+
+pub read-buffer : (κs : Lfts 2) (a : Dens κs ReadStripKinds.ps) (p q : resT ReadStripKinds.r κs .Denot) (x y : AtExit (endedOf 2 ReadStripKinds.ps ReadStripKinds.r) κs)
+    → ReadStrip.Learnt κs a p x → ReadStrip.Learnt κs a q y → x .1 .1 .1 .0 .now ≡ y .1 .1 .1 .0 .now
+read-buffer κs a p q x y h k = only (h .1) (k .1)

@@ -1,19 +1,27 @@
-// The library's calls: data to strip.
+// The library's calls: data to strip, and strip to data.
 //
 // `draw` draws data as a strip in a lent buffer, or turns them away with the first of 1, 2, 3, 4, 5, 6, 7, 8 that applies (document
 // 01, "Turned away: numbers and order"); `draw_field` does so for a job record's field, with 13 behind 3. Whatever is turned away
 // changes no byte of the buffer, and on 0 the bytes behind the strip stay.
 //
-// One definition gives the answer and the buffer (specs/Drawing.antt): `drawField`, of which `draw` is the case of a field of just
-// the data's length.
+// `read` hands back the data of a strip in a lent buffer, or turns it away with the first of 1, 2, 9, 10, 11, 12, 7, 8 that applies.
+//
+// One definition gives the answer and the buffer of a call: `drawField` (specs/Drawing.antt), of which `draw` is the case of a
+// field of just the data's length, and `readStrip` (specs/Reading.antt).
+use rows::Handed;
 use rows::Row;
 use rows::Verdict;
 use units::Laid;
 use words::Answer;
+use words::Modules;
 ghost use mathlib.Core.Path.{_≡_};
+ghost use Prim.Native.Nat.{_≤_};
 ghost use lib.ListN.{length};
+ghost use Rattle.laws.specs.Elements.{sum};
+ghost use Rattle.rows.specs.Held.{dataOfRow};
 ghost use Rattle.units.specs.Laid.{charsOf, laidOf, laidIn};
 ghost use Rattle.strip.specs.Drawing.{drawData, drawField, answerOf};
+ghost use Rattle.strip.specs.Reading.{handed, readStrip};
 
 // The strip of data.
 pub fn draw(symbology: u8, mode: u8, text: &[u8], out: &mut [u8]) -> Answer
@@ -47,4 +55,44 @@ fn lay(symbology: u8, row: Row, out: &mut [u8]) -> Answer
         Laid::Short(elements) => Answer::ShortForStrip(elements),
         Laid::NoRow => Answer::BadCount,
     }
+}
+
+// The data of a strip.
+pub fn read(symbology: u8, mode: u8, strip: &[u8], out: &mut [u8]) -> Answer
+    ensures { λ r. ⌜ r ≡ readStrip symbology mode (now (strip .entry)) (now (out .entry)) .answer ⌝ }
+    ensures { λ _. ⌜ now (out .exit) ≡ readStrip symbology mode (now (strip .entry)) (now (out .entry)) .buffer ⌝ }
+{
+    let rowed = reads::row_seen(symbology, mode, strip);
+    let verdict = rowed.verdict;
+    match verdict {
+        Verdict::Turned(answer) => answer,
+        Verdict::Given => hand_back(symbology, mode, rowed.row, strip, out),
+    }
+}
+
+// The answer for the row of a strip: 12, 7, 8, or its data.
+fn hand_back(symbology: u8, mode: u8, row: Row, strip: &[u8], out: &mut [u8]) -> Answer
+    requires { ⌜ length (now strip) ≤ 339 ⌝ }
+    ensures { λ r. ⌜ r ≡ handed (now (strip .entry)) (dataOfRow symbology mode row) (now (out .entry)) .answer ⌝ }
+    ensures { λ _. ⌜ now (out .exit) ≡ handed (now (strip .entry)) (dataOfRow symbology mode row) (now (out .entry)) .buffer ⌝ }
+{
+    let handed = rows::data_of(symbology, mode, row, out);
+    match handed {
+        Handed::Turned(answer) => answer,
+        Handed::Data(bytes) => Answer::HandedBack(bytes, Modules(modules_in(strip))),
+    }
+}
+
+// The modules of a strip: the sum of its elements.
+fn modules_in(strip: &[u8]) -> usize
+    requires { ⌜ length (now strip) ≤ 339 ⌝ }
+    ensures { λ r. ⌜ r ≡ sum (now (strip .entry)) ⌝ }
+{
+    let mut total = 0;
+    let mut i = 0;
+    while i < strip.len() {
+        total += strip[i] as usize;
+        i += 1;
+    }
+    total
 }
