@@ -1,9 +1,10 @@
 // A line of the output: a label, what a call answered, and what it left in the room, which was filled with FILL.
 use crate::part;
+use crate::part::Form;
 use words::Said;
 
-// No element is so wide.
-pub const FILL: u8 = 9;
+// No element is so wide, and no byte of data so high.
+pub const FILL: u8 = 255;
 
 // name/symbology/mode/count
 pub fn label(vector: &[u8], symbology: u8, mode: u8, count: usize) {
@@ -28,14 +29,23 @@ fn write_part(n: u64) {
     io::print_decimal(1, n);
 }
 
-// The rest of the line.
-pub fn show(said: Said, room: &[u8; 339]) {
+// The rest of the line, of a call that draws.
+pub fn show_strip(said: Said, room: &[u8; 339]) {
+    show(said, Form::Widths, room);
+}
+
+// The rest of the line, of a call that reads.
+pub fn show_data(said: Said, room: &[u8; 40]) {
+    show(said, Form::Text, room);
+}
+
+fn show(said: Said, form: Form, room: &[u8]) {
     let count = said.count;
     write_number(said.number as u64);
     write_number(said.place as u64);
     write_number(count as u64);
     write_number(said.total as u64);
-    write_strip(count, room);
+    write_first(room, count, form);
     if is_kept(room, count) {
         io::write_all(1, b" kept\n");
     } else {
@@ -48,47 +58,45 @@ fn write_number(n: u64) {
     io::print_decimal(1, n);
 }
 
-// The first `count` widths of the room, or - if there are none.
-fn write_strip(count: usize, room: &[u8; 339]) {
-    let text = digits(room);
+// The first `count` bytes of the room, or - if there are none.
+fn write_first(room: &[u8], count: usize, form: Form) {
     io::write_all(1, b" ");
     if count == 0 {
         io::write_all(1, b"-");
-    } else {
-        write_first(&text, count);
+    } else if count <= room.len() {
+        write_bytes(&room[0..count], form);
     }
 }
 
-fn write_first(text: &[u8], n: usize) {
-    if n <= text.len() {
-        io::write_all(1, &text[0..n]);
-    }
-}
-
-// The room's bytes as digits.
-fn digits(room: &[u8; 339]) -> [u8; 339] {
-    let mut text = [0; 339];
+fn write_bytes(bytes: &[u8], form: Form) {
     let mut i = 0;
-    while i < 339 {
-        text[i] = digit(room[i]);
+    while i < bytes.len() {
+        write_byte(bytes[i], form);
         i += 1;
     }
-    text
 }
 
-// The digit of a width, or ? if it has none.
-fn digit(width: u8) -> u8 {
-    if width < 10 { width + 48 } else { 63 }
+// A backslash is never alone: two digits follow.
+fn write_byte(byte: u8, form: Form) {
+    let plain = [part::plain(byte, form)];
+    io::write_all(1, &plain);
+    if plain[0] == b'\\' {
+        io::print_hex(1, byte as u64, 2);
+    }
 }
 
 // Whether every byte of the room from an index on is what the room was filled with.
-fn is_kept(room: &[u8; 339], from: usize) -> bool {
+fn is_kept(room: &[u8], from: usize) -> bool {
     let mut i = from;
-    while i < 339 {
+    while i < room.len() {
         if room[i] != FILL {
             return false;
         }
         i += 1;
     }
     true
+}
+
+pub fn bad() {
+    io::write_all(1, b"bad line\n");
 }

@@ -73,7 +73,29 @@ fn digit(byte: u8) -> u8 {
     }
 }
 
-// What the next byte of data is: itself or a backslash; the first digit behind a backslash; or, from 0 to 15, the second digit
+// How data are written: as text, in which a printed character stands for itself, or as widths, in which a digit stands for its
+// value. A backslash and two hexadecimal digits stand for any byte.
+pub enum Form {
+    Text,
+    Widths,
+}
+
+// The character that stands for a byte, or a backslash if there is none or it is that.
+pub fn plain(byte: u8, form: Form) -> u8 {
+    match form {
+        Form::Text => { if is_printed(byte) { byte } else { b'\\' } }
+        Form::Widths => { if byte < 10 { byte + b'0' } else { b'\\' } }
+    }
+}
+
+fn is_printed(byte: u8) -> bool {
+    match byte {
+        b'!'..=b'~' => true,
+        _ => false,
+    }
+}
+
+// What the next byte of data is: plain or a backslash; the first digit behind a backslash; or, from 0 to 15, the second digit
 // behind that one. WRONG, which no digit is, stays.
 const PLAIN: u8 = 17;
 
@@ -82,7 +104,7 @@ const ESCAPED: u8 = 18;
 const WRONG: u8 = 16;
 
 // Puts the data that begin with a word and end with the line into `out`, and answers how many bytes they are, or NONE.
-pub fn read(line: &[u8], word: usize, out: &mut [u8]) -> usize {
+pub fn read(line: &[u8], word: usize, form: Form, out: &mut [u8]) -> usize {
     let mut state = PLAIN;
     let mut count = 0;
     let mut i = start(line, word);
@@ -90,8 +112,8 @@ pub fn read(line: &[u8], word: usize, out: &mut [u8]) -> usize {
         if count >= out.len() {
             return NONE;
         }
-        out[count] = value(state, line[i]);
-        state = next(state, line[i]);
+        out[count] = value(state, line[i], form);
+        state = next(state, line[i], form);
         count = counted(count, state);
         i += 1;
     }
@@ -99,28 +121,44 @@ pub fn read(line: &[u8], word: usize, out: &mut [u8]) -> usize {
 }
 
 // The byte of data, if it ends here.
-fn value(state: u8, byte: u8) -> u8 {
+fn value(state: u8, byte: u8, form: Form) -> u8 {
     if state < 16 {
         state * 16 + digit(byte) % 16
     } else {
-        byte
+        plain_value(byte, form)
     }
 }
 
-fn next(state: u8, byte: u8) -> u8 {
+fn plain_value(byte: u8, form: Form) -> u8 {
+    match form {
+        Form::Text => byte,
+        Form::Widths => digit(byte),
+    }
+}
+
+fn next(state: u8, byte: u8, form: Form) -> u8 {
     match state {
-        PLAIN => next_plain(byte),
+        PLAIN => next_plain(byte, form),
         ESCAPED => digit(byte),
         WRONG => WRONG,
         _ => next_digit(digit(byte)),
     }
 }
 
-fn next_plain(byte: u8) -> u8 {
-    match byte {
-        b'\\' => ESCAPED,
-        b'!'..=b'~' => PLAIN,
-        _ => WRONG,
+fn next_plain(byte: u8, form: Form) -> u8 {
+    if byte == b'\\' {
+        ESCAPED
+    } else if is_plain(byte, form) {
+        PLAIN
+    } else {
+        WRONG
+    }
+}
+
+fn is_plain(byte: u8, form: Form) -> bool {
+    match form {
+        Form::Text => is_printed(byte),
+        Form::Widths => digit(byte) < 10,
     }
 }
 

@@ -1,6 +1,7 @@
 -- `is_kept` goes up to the end of the room; the loop asks for its index alone.
 -- Assumes nothing.
 use borrow.Author.Needs.{needs}
+use lib.ListN.{length}
 use Prim.Native.Nat.{_-_}
 use Rattle.vectors.proofs.line.is_kept.Statement.{statement}
 use Rattle.vectors.proofs.line.is_kept.Tie as tie
@@ -9,7 +10,7 @@ abbrev Inv-loop : tie.InvT-loop
 Inv-loop room from i₀ i = Unit
 
 abbrev μ-loop : tie.MeasureT-loop
-μ-loop room from i₀ i = 339 - i
+μ-loop room from i₀ i = length room - i
 
 pub is-kept-spec : {M : Type 1} → statement M
 is-kept-spec =

@@ -8,10 +8,10 @@ use Rattle.vectors.proofs.part.read.Statement.{statement}
 use Rattle.vectors.proofs.part.read.Tie as tie
 
 abbrev Inv-loop : tie.InvT-loop
-Inv-loop line word out₀ state₀ count₀ i₀ out state count i = length out ≡ length out₀
+Inv-loop line word form out₀ state₀ count₀ i₀ out state count i = length out ≡ length out₀
 
 abbrev μ-loop : tie.MeasureT-loop
-μ-loop line word out₀ state₀ count₀ i₀ out state count i = length line - i
+μ-loop line word form out₀ state₀ count₀ i₀ out state count i = length line - i
 
 pub read-spec : {M : Type 1} → statement M
 read-spec =

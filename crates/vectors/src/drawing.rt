@@ -1,0 +1,60 @@
+// The vectors that are drawn: data or a field, and a room of 339 bytes or its first bytes.
+use crate::line;
+use crate::part;
+use crate::part::Form;
+
+// Draws the data from a word on, into the first `lent` bytes of the room.
+pub fn draw_text(vector: &[u8], symbology: u8, mode: u8, lent: usize, word: usize) {
+    let mut text = [0; 64];
+    let count = part::read(vector, word, Form::Text, &mut text);
+    draw_first(vector, symbology, mode, lent, &text, count);
+}
+
+fn draw_first(vector: &[u8], symbology: u8, mode: u8, lent: usize, text: &[u8], count: usize) {
+    if count <= text.len() {
+        draw_lent(vector, symbology, mode, lent, &text[0..count]);
+    } else {
+        line::bad();
+    }
+}
+
+fn draw_lent(vector: &[u8], symbology: u8, mode: u8, lent: usize, text: &[u8]) {
+    let mut room = [line::FILL; 339];
+    if lent > 339 {
+        line::bad();
+    } else {
+        let answer = strip::draw(symbology, mode, text, &mut room[0..lent]);
+        line::label(vector, symbology, mode, text.len());
+        line::show_strip(words::say(answer), &room);
+    }
+}
+
+// Draws the first bytes of a field, which is the data and then zeros.
+pub fn draw_field(vector: &[u8], kind: u8, mode: u8) {
+    let mut field = [0; 64];
+    let size = part::number(vector, 5);
+    if part::read(vector, 6, Form::Text, &mut field) > size {
+        line::bad();
+    } else {
+        draw_sized(vector, kind, mode, &field, size);
+    }
+}
+
+fn draw_sized(vector: &[u8], kind: u8, mode: u8, field: &[u8], size: usize) {
+    if size <= field.len() {
+        draw_counted(vector, kind, mode, part::number(vector, 4), &field[0..size]);
+    } else {
+        line::bad();
+    }
+}
+
+fn draw_counted(vector: &[u8], kind: u8, mode: u8, count: usize, field: &[u8]) {
+    let mut room = [line::FILL; 339];
+    if count >= part::NONE {
+        line::bad();
+    } else {
+        let answer = strip::draw_field(kind, mode, count, field, &mut room);
+        line::label(vector, kind, mode, count);
+        line::show_strip(words::say(answer), &room);
+    }
+}
