@@ -124,7 +124,7 @@ in-set : (b : ℕ) (r : List ℕ) → Below b r → allIn 0 b r ≡ true
 in-set b [] p = refl
 in-set b (c ∷ cs) p = rw (le-leb 0 c (omega arith), lt-ltb c b (p .0), in-set b cs (p .1))
 
-below-allowed : (s : ℕ) (r : List ℕ) → eqb s 3 ≡ false → Below (size (symbologyOf s .alphabet)) r → allAllowed s true r ≡ true
+pub below-allowed : (s : ℕ) (r : List ℕ) → eqb s 3 ≡ false → Below (size (symbologyOf s .alphabet)) r → allAllowed s true r ≡ true
 below-allowed s r n p = allowed-in s true r n ∙ in-set (size (symbologyOf s .alphabet)) r p
 
 -- ---- each way

@@ -3,7 +3,8 @@
 --   unit-widths   the elements of the units are those of the table, for every count of the symbology
 --   seen-is       where a mode gives n characters, a strip of their length shows what its units read
 --   read-own      the units of a ready row's strip read its choices
---   drawn-seen    a row that is drawn is seen in its strip
+--   ready-seen    a ready row of a count that the mode can give is seen in its strip
+--   drawn-seen    so it is for every row that is drawn
 --   by-choices, by-reading    a row that a reading shows is ready, and what was read is its strip
 --   seen-drawn    so it is for every row that is seen
 --
@@ -75,16 +76,20 @@ read-own : (s : ℕ) (r : List ℕ) → ready s r ≡ true → read (unitsOf s (
 unfolding stripOf
 read-own s r h = strip-read (unitsOf s (length r)) (planOf s .choices r) 0 (all-good s (length r)) (ready-fits s r h)
 
+pub ready-seen : (s m : ℕ) (r : List ℕ) → symbologyOf s .limits .known ≡ true → offered (symbologyOf s .limits) m ≡ true
+    → drawable (symbologyOf s) m (length r) ≡ true → ready s r ≡ true → rowSeen s m (stripOf s r) ≡ gives r
+ready-seen s m r k o p h =
+    let c : counted s (length r) ≡ true = ready-counted s r h in
+    let w : Turns s = turns s (length r) c in
+    let i : charsOf s (length r) (shows (planOf s .choices r)) ≡ r = w .chars (length r) (planOf s .choices r) c (ready-fits s r h) ∙ w .there r h in
+    seen-is s m (length r) (stripOf s r) k o p (sym (elements s r h))
+    ∙ ap (shown s (length r)) (read-own s r h) ∙ rw (w .like r h, i)
+
 pub drawn-seen : (s m : ℕ) (d r : List ℕ) → rowOf s m d ≡ gives r → rowSeen s m (stripOf s r) ≡ gives r
 drawn-seen s m d r e =
     let a : Reads s m d r = reads s m d r (undo s m d r .0 e) in
-    let h : ready s r ≡ true = drawn-ready s m d r e in
-    let c : counted s (length r) ≡ true = ready-counted s r h in
-    let w : Turns s = turns s (length r) c in
     let p : drawable (symbologyOf s) m (length r) ≡ true = rw (a .count, a .paired) in
-    let i : charsOf s (length r) (shows (planOf s .choices r)) ≡ r = w .chars (length r) (planOf s .choices r) c (ready-fits s r h) ∙ w .there r h in
-    seen-is s m (length r) (stripOf s r) (a .known) (a .offers) p (sym (elements s r h))
-    ∙ ap (shown s (length r)) (read-own s r h) ∙ rw (w .like r h, i)
+    ready-seen s m r (a .known) (a .offers) p (drawn-ready s m d r e)
 
 -- ---- seen and drawn
 

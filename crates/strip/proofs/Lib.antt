@@ -1,5 +1,9 @@
 pub mod Calls
+pub mod Demands
 pub mod Fields
 pub mod Hands
+pub mod Honest
 pub mod Only
+pub mod Order
+pub mod Requests
 pub mod Sums
