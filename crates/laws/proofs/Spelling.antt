@@ -16,7 +16,7 @@
 --
 -- Assumes nothing.
 use mathlib.Core.Path.{_≡_, refl, sym, ap, _∙_}
-use mathlib.Core.Logic.{_≢_, _↔_}
+use mathlib.Core.Logic.{_↔_}
 use mathlib.Core.Bool.{Bool, true, false, _&&_}
 use mathlib.Core.List.{List, [], _∷_, _++_}
 use Prim.Native.Nat.{ℕ, zero, suc, _+_, _*_, _<_, _≤_}
@@ -26,7 +26,7 @@ use native.Mathlib.Nat.{le-of-suc-le-suc, not-suc-le-zero}
 use lib.Dec.{ltb}
 use lib.ListN.{length, getD}
 use borrow.Author.Tests.{ltb-true, lt-ltb}
-use Rattle.laws.specs.Search.{pick, first}
+use Rattle.laws.specs.Search.{pick}
 use Rattle.laws.specs.Elements.{alike}
 use Rattle.laws.specs.Units.{Reading, found, stopped, push}
 use Rattle.laws.specs.Spelling.{Coder, atEnd, join, took, spell, counted, byteFor, gave, unspell}

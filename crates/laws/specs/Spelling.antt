@@ -7,7 +7,7 @@
 --   unspell    the data that characters spell, or the index of the character where the first failing item begins
 use mathlib.Core.Bool.{Bool, true, false}
 use mathlib.Core.List.{List, [], _∷_}
-use Prim.Native.Nat.{ℕ, zero, suc, _+_}
+use Prim.Native.Nat.{ℕ, zero, suc}
 use lib.Dec.{ltb}
 use Rattle.laws.specs.Search.{pick, first}
 use Rattle.laws.specs.Elements.{alike}

@@ -6,10 +6,10 @@
 --   caught      a row that passes does not pass with one of its characters replaced by another
 --
 -- Assumes nothing.
-use mathlib.Core.Path.{_≡_, refl, sym, ap, _∙_}
+use mathlib.Core.Path.{_≡_, refl, sym, _∙_}
 use mathlib.Core.Logic.{_↔_, _≢_}
 use mathlib.Core.List.{List, [], _∷_, _++_, reverse}
-use Prim.Native.Nat.{ℕ, zero, suc, _+_, _-_, _*_, _%_, _<_, _≤_}
+use Prim.Native.Nat.{ℕ, _+_, _-_, _*_, _%_, _<_}
 use native.Mathlib.Omega.{arith}
 use native.Mathlib.Nat.{one-mul, add-zero, mod-eq-of-lt, mod-lt}
 use lib.Dec.{lit<}
@@ -18,7 +18,7 @@ use lib.Seq.{length-take-le}
 use Rattle.laws.specs.Weigh.{dot, turns, Inverses}
 use Rattle.laws.proofs.Weigh.{one-check, catches, inverses-append, inverses-turns, inverses-reverse, length-turns}
 use Rattle.rows.specs.Checks.{Rule, by43, left10, right10, nextTen, front, final, checkOf}
-use Rattle.rows.proofs.Ends.{front-snoc, final-snoc, whole}
+use Rattle.rows.proofs.Ends.{whole}
 
 pub record Sound (rule : Rule) (size : ℕ) : Type 0 where
   pub weight : ℕ

@@ -12,25 +12,23 @@
 -- Assumes nothing.
 use mathlib.Core.Path.{_≡_, refl, sym, ap, _∙_}
 use mathlib.Core.Bool.{Bool, true, false, _&&_, not}
-use mathlib.Core.List.{List, [], _∷_, map}
-use Prim.Native.Nat.{ℕ, zero, suc, _+_, _-_, _<_, _≤_}
+use mathlib.Core.List.{List, [], _∷_}
+use Prim.Native.Nat.{ℕ, _+_, _-_, _<_, _≤_}
 use native.Mathlib.Omega.{arith}
 use native.Mathlib.Decide.{decLt}
 use lib.Dec.{eqb, ltb, leb}
 use lib.ListN.{length, getD}
-use borrow.Author.Tests.{eqb-true, ltb-true, ltb-false, lt-ltb, lt-leb, not-true}
+use borrow.Author.Tests.{eqb-true, ltb-true, lt-leb, not-true}
 use Rattle.laws.specs.Search.{pick, first, indexIn}
 use Rattle.laws.specs.Elements.{alike}
 use Rattle.laws.specs.Spelling.{Coder, counted, byteFor}
 use Rattle.laws.proofs.Finite.{both-left, both-right, upto, upto-at, every, every-at}
-use Rattle.laws.proofs.Search.{first-most}
-use Rattle.laws.proofs.Elements.{alike-self}
 use Rattle.laws.proofs.Spelling.{Drawn, none, alone, pair, Valid, for-own, for-none, Below, below-test, below}
 use Rattle.tables.specs.Alphabet.{Alphabet, size, valueOf, byteOf}
-use Rattle.tables.specs.Code39.{chars39, table42, alphabet39}
+use Rattle.tables.specs.Code39.{chars39, alphabet39}
 use Rattle.tables.specs.Codabar.{table41, alphabetCodabar}
 use Rattle.tables.specs.TwoOfFive.{table44, alphabetDigits}
-use Rattle.tables.specs.FullAscii.{Range, ranges, within, drawnIn, drawing}
+use Rattle.tables.specs.FullAscii.{Range, ranges, drawnIn, drawing}
 use Rattle.tables.proofs.Alphabets.{Proper, value-byte, byte-value, proper39, proper-codabar, proper-digits}
 use Rattle.rows.specs.Coders.{single, alphabetic, plain, placed, codabarCoder, shifts, fullCoder}
 

@@ -15,7 +15,7 @@ use lib.Dec.{eqb, ltb}
 use lib.ListN.{length, take, length-append}
 use borrow.Author.Tests.{eq-eqb, ne-eqb, lt-ltb, le-ltb, ltb-false, eqb-true}
 use Rattle.laws.specs.Search.{pick}
-use Rattle.laws.specs.Units.{Reading, found, stopped}
+use Rattle.laws.specs.Units.{found, stopped}
 use Rattle.laws.specs.Spelling.{spell}
 use Rattle.laws.proofs.Spelling.{Valid, spell-few, spell-stops}
 use Rattle.words.specs.declared.Answer.{Answer}
@@ -25,7 +25,7 @@ use Rattle.rows.specs.declared.row.Row.{Row}
 use Rattle.rows.specs.declared.spelling.Spelled.{Spelled}
 use Rattle.rows.specs.declared.drawing.Verdict.the-variants.{Given}
 use Rattle.rows.specs.declared.drawing.Rowed.{Rowed}
-use Rattle.rows.specs.Checks.{front, final, checkOf, passes}
+use Rattle.rows.specs.Checks.{final, checkOf, passes}
 use Rattle.rows.specs.Symbologies.{Symbology}
 use Rattle.rows.specs.Rows.{Outcome, gives, turned, dataPlace, charPlace, odd, wrongCheck, bodyOf, raw, ending, judged, drawnRow}
 use Rattle.rows.specs.Held.{pad, rowIn, pushed, spelledIn, told, closed, finished}
@@ -65,10 +65,6 @@ module _ (y : Symbology) (m : ℕ) (head : Row) (v n : ℕ) (e : n ≡ head .len
         pushed-on (inr w) = rw (← e, p, le-ltb (y .room) n f, ← q, ne-eqb m 0 z, eq-eqb v c w, and-false (eqb m 1))
 
 -- ---- on a spelled head
-
-told-pick : (b : Bool) (a : Answer) (z : Outcome) → told (pick b (turned a) z) ≡ pick b (told (turned a)) (told z)
-told-pick true a z = refl
-told-pick false a z = refl
 
 behind-tests : (a b : Bool) (x w : Answer) (z : Rowed) (o : Outcome) → (b ≡ false → z ≡ told o)
     → pick a (told (turned x)) (pick b (told (turned w)) z) ≡ told (pick a (turned x) (pick b (turned w) o))

@@ -13,7 +13,7 @@ use Prim.Native.Nat.{ℕ, zero, suc, _+_, _*_, _-_, _<_, _≤_}
 use native.Mathlib.Omega.{arith}
 use native.Mathlib.Decide.{decLt}
 use native.Mathlib.Numerals.{add-one}
-use lib.Dec.{eqb, ltb}
+use lib.Dec.{eqb}
 use lib.ListN.{length, getD, take, drop, set, length-append, length-drop, drop-of-length-le}
 use lib.Seq.{drop-cons, drop-drop, getD-take, length-take-le}
 use borrow.Author.Tests.{eq-eqb, ne-eqb, lt-ltb, le-ltb}
@@ -23,7 +23,6 @@ use Rattle.laws.specs.Spelling.{Coder, atEnd, join, took, spell, byteFor, gave,
 use Rattle.rows.specs.declared.row.Row.{Row}
 use Rattle.rows.specs.declared.full_ascii.Piece.{Piece}
 use Rattle.rows.specs.declared.full_ascii.Piece.the-variants.{Alone, Pair, Nothing}
-use Rattle.rows.specs.declared.spelling.Spelled.{Spelled}
 use Rattle.rows.specs.declared.spelling.Item.{Item}
 use Rattle.rows.specs.Held.{pad, rowIn, pushed, putAll, pieceList, isNil, isEnd, spelledIn, itemOf}
 

@@ -7,12 +7,12 @@
 --   turned-1 .. turned-13, let-on    the returns of `row_of_field`
 --
 -- Assumes nothing.
-use mathlib.Core.Path.{_≡_, refl, sym, ap, _∙_}
+use mathlib.Core.Path.{_≡_, sym, ap, _∙_}
 use mathlib.Core.Bool.{Bool, true, false, _&&_, not}
 use mathlib.Core.List.{List}
 use Prim.Native.Nat.{ℕ, _+_, _-_, _<_, _≤_}
 use native.Mathlib.Omega.{arith}
-use lib.Dec.{ltb, leb}
+use lib.Dec.{leb}
 use lib.ListN.{length, getD, take, drop, length-drop}
 use lib.Seq.{length-take-le}
 use borrow.Author.Tests.{lt-ltb, le-ltb, le-leb, lt-leb, not-true, not-false}
@@ -23,7 +23,7 @@ use Rattle.rows.specs.declared.limits.Limits.{Limits}
 use Rattle.rows.specs.declared.drawing.Rowed.{Rowed}
 use Rattle.rows.specs.Limits.{offered, holds}
 use Rattle.rows.specs.Symbologies.{symbologyOf}
-use Rattle.rows.specs.Rows.{Outcome, gives, turned, dataPlace, added, nonzero, drawnRow, rowOfField}
+use Rattle.rows.specs.Rows.{Outcome, turned, dataPlace, added, nonzero, drawnRow, rowOfField}
 use Rattle.rows.specs.Held.{told}
 use Rattle.rows.proofs.Proper.{Counts, proper}
 use Rattle.rows.proofs.Numbers.{room-small}

@@ -6,22 +6,21 @@
 --   proper     every symbology is proper
 --
 -- Assumes nothing.
-use mathlib.Core.Path.{_≡_, refl, sym, _∙_}
+use mathlib.Core.Path.{_≡_, refl}
 use mathlib.Core.Logic.{_⊎_, inl, inr, _≢_}
 use mathlib.Core.Bool.{Bool, true, false, _&&_}
-use mathlib.Core.List.{List, [], _∷_}
 use Prim.Native.Nat.{ℕ, zero, suc, _+_, _-_, _%_, _<_, _≤_}
 use native.Mathlib.Omega.{arith}
 use native.Mathlib.Nat.{mod-lt}
 use native.Mathlib.Decide.{decLt}
 use lib.Dec.{eqb, ltb, leb, lit<}
 use lib.ListN.{length, getD, List·getD-eq-default}
-use borrow.Author.Tests.{ltb-true, leb-true, eqb-true}
+use borrow.Author.Tests.{ltb-true, leb-true}
 use Rattle.laws.specs.Search.{pick}
-use Rattle.laws.proofs.Finite.{both-left, both-right, upto, upto-at, line, Each, each-at}
+use Rattle.laws.proofs.Finite.{both-left, both-right, upto, upto-at, line, each-at}
 use Rattle.laws.proofs.Spelling.{Valid}
-use Rattle.tables.specs.Alphabet.{Alphabet, size}
-use Rattle.tables.specs.Code39.{chars39, table42, alphabet39}
+use Rattle.tables.specs.Alphabet.{size}
+use Rattle.tables.specs.Code39.{chars39, alphabet39}
 use Rattle.tables.specs.Codabar.{table41, alphabetCodabar}
 use Rattle.tables.specs.TwoOfFive.{table44, alphabetDigits}
 use Rattle.tables.proofs.Alphabets as Alphabets

@@ -17,21 +17,21 @@ use native.Mathlib.Decide.{ℕ-discrete}
 use lib.Dec.{eqb, ltb, leb}
 use lib.ListN.{length, getD, take, drop, length-append}
 use lib.Seq.{take-length, drop-length, length-take-le}
-use borrow.Author.Tests.{ltb-true, ltb-false, leb-true, le-leb, le-ltb, lt-ltb, eqb-true, eq-eqb, not-true, not-false}
+use borrow.Author.Tests.{ltb-true, ltb-false, leb-true, le-leb, le-ltb, lt-ltb, eqb-true, not-true, not-false}
 use Rattle.laws.specs.Search.{pick}
 use Rattle.laws.specs.Units.{Reading, found, stopped}
 use Rattle.laws.specs.Spelling.{spell, unspell}
 use Rattle.laws.proofs.Finite.{both-left, both-right}
 use Rattle.laws.proofs.Spelling.{spell-unspell, unspell-spell, spell-long, spell-same}
 use Rattle.words.specs.declared.Answer.{Answer}
-use Rattle.words.specs.declared.Answer.the-variants.{NoSymbology, NoMode, BadCount, BadByte, OddCount, TooManyDrawn, BadCheck, BadLength, NoExpansion, FieldNotZero}
+use Rattle.words.specs.declared.Answer.the-variants.{NoSymbology, NoMode, BadCount, OddCount, TooManyDrawn, BadLength, FieldNotZero}
 use Rattle.tables.specs.Alphabet.{size, valueOf, byteOf}
 use Rattle.tables.proofs.Alphabets.{value-byte, byte-value}
 use Rattle.rows.specs.declared.limits.Limits.{Limits}
 use Rattle.rows.specs.Limits.{offered, holds}
 use Rattle.rows.specs.Checks.{front, final, checkOf, passes}
 use Rattle.rows.specs.Symbologies.{Symbology, symbologyOf}
-use Rattle.rows.specs.Rows.{Outcome, gives, turned, dataPlace, charPlace, odd, wrongCheck, bodyOf, raw, ending, judged, spelled, drawnRow, nonzero, unclean, rowOfField, rowOf, headOf, kept, added, drawable, unspelled, readRow, dataOfCount, dataOf}
+use Rattle.rows.specs.Rows.{Outcome, gives, turned, dataPlace, odd, bodyOf, raw, ending, judged, spelled, drawnRow, nonzero, unclean, rowOfField, rowOf, headOf, kept, added, drawable, unspelled, readRow, dataOfCount, dataOf}
 use Rattle.rows.proofs.Coders.{Single}
 use Rattle.rows.proofs.Proper.{given, Counts, Loose, Proper, proper}
 use Rattle.rows.proofs.Ends.{front-snoc, final-snoc, whole}

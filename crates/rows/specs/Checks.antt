@@ -10,7 +10,7 @@
 --   checkOf     the check of the characters before it
 --   passes      whether a row's last character is its check; without a check every row passes
 use mathlib.Core.Bool.{Bool, true}
-use mathlib.Core.List.{List, [], _∷_, reverse}
+use mathlib.Core.List.{List, [], reverse}
 use Prim.Native.Nat.{ℕ, _-_, _%_}
 use lib.Dec.{eqb}
 use lib.ListN.{length, getD, take}

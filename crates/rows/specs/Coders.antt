@@ -4,7 +4,7 @@
 --   plain          everywhere
 --   codabarCoder   at the ends one of the letters A, B, C, D, inside one of the others
 --   fullCoder      full ASCII: the drawing codes of 10.1.3; / + and % begin a pair
-use mathlib.Core.Bool.{Bool, true, false, _&&_}
+use mathlib.Core.Bool.{Bool, false, _&&_}
 use mathlib.Core.List.{List, [], _∷_, map}
 use Prim.Native.Nat.{ℕ}
 use lib.Dec.{ltb, leb}

@@ -15,7 +15,7 @@
 --   starts, startOf    empty sums with the weights of n characters, by symbology number
 use mathlib.Core.Bool.{Bool, true, false, _&&_, not}
 use mathlib.Core.List.{List, [], _∷_, _++_}
-use Prim.Native.Nat.{ℕ, zero, suc, _+_, _*_, _%_, _<_, _≤_}
+use Prim.Native.Nat.{ℕ, zero, suc, _+_, _*_, _%_, _≤_}
 use lib.Dec.{eqb, ltb}
 use lib.ListN.{length, getD, take, drop, set}
 use Rattle.laws.specs.Search.{pick}

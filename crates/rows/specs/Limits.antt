@@ -6,7 +6,7 @@
 --   offered         whether a mode is offered
 --   holds           whether a mode takes so many data bytes
 use mathlib.Core.Bool.{Bool, true, false, _&&_}
-use mathlib.Core.List.{List, [], _∷_}
+use mathlib.Core.List.{[], _∷_}
 use Prim.Native.Nat.{ℕ}
 use lib.Dec.{ltb, leb}
 use lib.ListN.{getD}

@@ -4,7 +4,7 @@
 --   rowOfField  a job record's field with its count: 1, 2, 3, 13, 4, 5, 6, 7, then the row
 --   rowOf       plain data: a field of just its length, so that 13 can't come
 --   dataOf      a row to its data: 1, 2, 9 (the mode gives no such drawn count), 12, 7, then the data
-use mathlib.Core.Bool.{Bool, true, false, _&&_, not}
+use mathlib.Core.Bool.{Bool, true, _&&_, not}
 use mathlib.Core.List.{List, [], _∷_, _++_}
 use Prim.Native.Nat.{ℕ, _+_, _-_, _%_}
 use lib.Dec.{eqb, ltb, leb}

@@ -1,11 +1,10 @@
 -- Document 01's ranges give the drawing codes that source 004 prints in 10.1.3, byte by byte from 20h to 7Fh.
 -- Assumes nothing.
 use mathlib.Core.Path.{_≡_, refl}
-use mathlib.Core.Bool.{true}
 use Prim.Native.Nat.{ℕ, _+_, _<_}
 use lib.ListN.{getD}
 use Rattle.laws.specs.Elements.{alike}
-use Rattle.laws.proofs.Finite.{upto, upto-at}
+use Rattle.laws.proofs.Finite.{upto-at}
 use Rattle.laws.proofs.Elements.{alike-true}
 use Rattle.tables.specs.Printed.{text}
 use Rattle.tables.specs.FullAscii.{ranges, drawing, printed}

@@ -4,8 +4,8 @@
 --   refusal   of a number that is not 0: count and total are 0
 --
 -- Assumes nothing.
-use mathlib.Core.Path.{_≡_, refl, ap, _∙_}
-use mathlib.Core.Logic.{_⊎_, inl, inr, _≢_}
+use mathlib.Core.Path.{_≡_, refl, ap}
+use mathlib.Core.Logic.{_≢_}
 use Prim.Native.Nat.{ℕ, suc}
 use Rattle.words.specs.declared.Answer.{Answer}
 use Rattle.words.specs.declared.Answer.the-variants.{Drawn, HandedBack, NoSymbology, NoMode, BadCount, BadByte, OddCount, TooManyDrawn, BadCheck, ShortForStrip, ShortForData, BadLength, NoSuchUnit, NoSuchParities, NoExpansion, FieldNotZero}
