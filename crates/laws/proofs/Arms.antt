@@ -2,7 +2,7 @@
 -- between two bounds and off the single numbers that other arms take.
 --
 --   Off       b is none of these numbers: the last of them first, as the checker hands it over
---   stretch   a test passes at n numbers from lo on, off these numbers
+--   unless    a test, or b is one of these numbers; so `stretch`: a test passes at n numbers from lo on, off these numbers
 --   agree     two numbers agree there; `alike-there`, two lists
 --
 -- Assumes nothing.
@@ -22,7 +22,6 @@ abbrev pub Off : List ℕ → ℕ → Type 0
 Off [] b = Unit {0}
 Off (k ∷ ks) b = Off ks b × (b ≡ k → ⊥)
 
--- the test, or b is one of these numbers
 abbrev pub unless : List ℕ → (ℕ → Bool) → ℕ → Bool
 unless [] f b = f b
 unless (k ∷ ks) f b = let rest = unless ks f b in pick (eqb b k) true rest

@@ -1,7 +1,7 @@
 -- Computed tests over finite ranges, and what follows from them: a fact of every number below a bound, or of every row of a
 -- table, is one `refl`.
 --
---   both-left, both-right   what a conjunction of tests says
+--   both-left, both-right, both-true   what a conjunction of tests says, and when it passes
 --   upto       a test at every number below n; `upto-at` reads it off
 --   line       two numbers agree below a bound
 --   grid       two numbers agree at every pair below two bounds
@@ -28,6 +28,9 @@ both-left false b e = e
 pub both-right : (a b : Bool) → (a && b) ≡ true → b ≡ true
 both-right true b e = e
 both-right false b e = cc
+
+pub both-true : (a b : Bool) → a ≡ true → b ≡ true → (a && b) ≡ true
+both-true a b p q = rw (p, q)
 
 abbrev pub upto : ℕ → (ℕ → Bool) → Bool
 upto zero f = true

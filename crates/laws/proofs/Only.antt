@@ -1,6 +1,7 @@
 -- One answer for each input of this crate's public functions; and the law by which every crate shows it.
 --
---   only   two results that are both the definition's are the same
+--   only       two results that are both the definition's are the same
+--   index-in   so of `index_in`
 --
 -- Assumes nothing.
 use mathlib.Core.Path.{_≡_, sym, _∙_}

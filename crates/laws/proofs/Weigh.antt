@@ -1,10 +1,8 @@
 -- The weighted sum of a row, its check, and what a check catches: once, over the modulus and the weights. Values may pass the
 -- modulus, weights may be any, and the check may stand anywhere in the row; it has a weight of its own.
 --
---   after-none, after-next, after-all   the state after each character, and after the last
 --   replaced      one value replaced: the sum's remainder stays exactly if the value's does
 --   catches       so a row that passes does not pass with one value replaced by another
---   swapped       two neighbours exchanged: when the sum's remainder stays
 --   one-check     exactly one value below the modulus passes as the check
 --   inverses-turns, inverses-append, inverses-reverse     weights that have inverses
 --   length-turns  as many weights as were asked for
@@ -13,38 +11,14 @@
 use mathlib.Core.Path.{_≡_, refl, sym, ap, _∙_}
 use mathlib.Core.Logic.{_≢_, _↔_}
 use mathlib.Core.List.{List, [], _∷_, _++_, reverse, reverseAux}
-use Prim.Native.Nat.{ℕ, zero, suc, _+_, _*_, _%_, _<_, _≤_}
+use Prim.Native.Nat.{ℕ, zero, suc, _+_, _*_, _%_, _<_}
 use native.Mathlib.Omega.{arith}
 use native.Mathlib.Nat.{le-of-suc-le-suc, not-suc-le-zero, add-mod-mod, mod-eq-of-lt, mul-add, mul-comm, mul-assoc, mul-left-comm, mul-one, mul-zero, zero-mod, zero-add, add-zero}
-use native.Mathlib.Numerals.{add-one}
-use lib.ListN.{length, getD, take, set, length-set}
-use lib.Seq.{getD-set-other, take-all}
-use Rattle.laws.specs.Weigh.{dot, turns, after, swap, Inverses}
+use lib.ListN.{length, getD, set}
+use Rattle.laws.specs.Weigh.{dot, turns, Inverses}
 use Rattle.laws.proofs.Remainders.{mul-mod, times, plus, balance, apart}
 
--- ---- the state after each character
-
-dot-none : (ws : List ℕ) → dot ws [] ≡ 0
-dot-none [] = refl
-dot-none (w ∷ ws) = refl
-
-dot-take : (ws xs : List ℕ) (i : ℕ) → i < length xs → dot ws (take (suc i) xs) ≡ dot ws (take i xs) + getD ws i 0 * getD xs i 0
-dot-take [] xs i h = omega arith
-dot-take (w ∷ ws) [] i h = absurd (not-suc-le-zero h)
-dot-take (w ∷ ws) (x ∷ xs) zero h = omega (arith, dot-none ws)
-dot-take (w ∷ ws) (x ∷ xs) (suc i) h = omega (arith, dot-take ws xs i (le-of-suc-le-suc h))
-
-module _ (ws xs : List ℕ) where
-  pub after-none : after ws xs 0 ≡ 0
-  after-none = dot-none ws
-
-  pub after-next : (i : ℕ) → i < length xs → after ws xs (i + 1) ≡ after ws xs i + getD ws i 0 * getD xs i 0
-  after-next i h = rw add-one (dot-take ws xs i h)
-
-  pub after-all : (i : ℕ) → length xs ≤ i → after ws xs i ≡ dot ws xs
-  after-all i h = rw (take-all i xs h)
-
--- ---- one value replaced, two neighbours exchanged
+-- ---- one value replaced
 
 dot-set : (ws xs : List ℕ) (i y : ℕ) → i < length xs → dot ws (set xs i y) + getD ws i 0 * getD xs i 0 ≡ dot ws xs + getD ws i 0 * y
 dot-set [] xs i y h = omega arith
@@ -69,15 +43,6 @@ pub catches : (m : ℕ) (ws xs : List ℕ) (i y : ℕ) → 0 < m → Inverses m 
 catches m ws xs i y h v l k n e f =
     let u : (u : ℕ) × (u * getD ws i 0 % m ≡ 1) = inverse-at m ws i v (omega arith) in
     n (replaced m (u .0) ws xs i y h k (u .1) .0 (e ∙ sym f))
-
-pub swapped : (m : ℕ) (ws xs : List ℕ) (i : ℕ) → 0 < m → suc i < length xs
-    → (dot ws xs % m ≡ dot ws (swap xs i) % m)
-    ↔ ((getD ws i 0 * getD xs i 0 + getD ws (suc i) 0 * getD xs (suc i) 0) % m ≡ (getD ws i 0 * getD xs (suc i) 0 + getD ws (suc i) 0 * getD xs i 0) % m)
-swapped m ws xs i h l =
-    let b : ℕ = getD xs (suc i) 0 in
-    let o : getD (set xs i b) (suc i) 0 ≡ b = getD-set-other xs i (suc i) b 0 (omega arith) in
-    balance (dot ws xs) (dot ws (swap xs i)) _ _ m h
-    (omega (arith, dot-set ws xs i b (omega arith), rw o at (dot-set ws (set xs i b) (suc i) (getD xs i 0) (rw length-set l))))
 
 -- ---- the check
 

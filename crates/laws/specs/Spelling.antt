@@ -2,8 +2,12 @@
 --
 --   Coder      what a byte draws, at an end of the data or inside: no character where it is not allowed there; and which
 --              characters begin a pair
+--   atEnd      whether what has these bytes behind it is the first or the last
+--   join       characters before a reading; took, none where a byte at this index drew none
 --   spell      the characters of data, or the index of the first byte that is not allowed
+--   counted    n numbers from i on
 --   byteFor    the byte that draws an item, 256 where none does
+--   gave       a byte before a reading, or the index where there is none
 --   unspell    the data that characters spell, or the index of the character where the first failing item begins
 use mathlib.Core.Bool.{Bool, true, false}
 use mathlib.Core.List.{List, [], _∷_}
@@ -17,12 +21,10 @@ pub record Coder : Type 0 where
   pub drawn : Bool → ℕ → List ℕ
   pub shift : ℕ → Bool
 
--- the first or the last
 abbrev pub atEnd : Bool → List ℕ → Bool
 atEnd start [] = true
 atEnd start (x ∷ xs) = start
 
--- characters before a reading
 abbrev pub join : List ℕ → Reading → Reading
 join [] rest = rest
 join (c ∷ cs) rest = push c (join cs rest)

@@ -2,10 +2,12 @@
 --
 --   Kind      what a unit may be: `fixed`, one row (a guard, a start, a stop, a parting space), or `free`, one of a set of
 --             rows (a character, in Interleaved a pair)
---   rows, width, widths, frees    the rows of a kind, its elements, the elements of a shape, its free units
+--   rows, width    the rows of a kind, and its elements; widths, frees, the elements of a shape and its free units
 --   strip     a shape drawn, with a row number for each free unit
 --   Fits      the row numbers are as many as the free units, and each is in its set
 --   Reading   what is read: the row numbers, or the first element of the first unit that is in no row
+--   push      a row number before a reading; keep, a free unit's is handed back and a fixed unit's is not
+--   next      one unit tested; readAt, the units left, from element `at` of the strip on
 --   read      a shape read: the units are tested left to right, and the first that is in no row ends it
 --   Good      what is asked of a set of rows; All, of every set of a shape
 --   Level     each row of a set has m modules
@@ -59,7 +61,6 @@ abbrev pub push : ℕ → Reading → Reading
 push c (found cs) = found (c ∷ cs)
 push c (stopped at) = stopped at
 
--- a free unit's row number is handed back, a fixed unit's is not
 abbrev pub keep : Kind → ℕ → Reading → Reading
 keep (fixed r) c rest = rest
 keep (free k) c rest = push c rest
@@ -68,7 +69,7 @@ abbrev pub next : Bool → Kind → ℕ → ℕ → Reading → Reading
 next true k c at rest = keep k c rest
 next false k c at rest = stopped at
 
--- the units left, read from s, whose first element is element `at` of the strip
+-- s is what is left of the strip: its first element is element `at` of the whole
 abbrev pub readAt : List Kind → ℕ → List ℕ → Reading
 readAt [] at s = found []
 readAt (k ∷ ks) at s =

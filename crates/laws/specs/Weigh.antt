@@ -3,12 +3,11 @@
 --   dot        the weighted sum: each value times the weight at its place
 --   turns      n weights that take turns
 --   after      the state after i characters: their weighted sum
---   swap       a row with the values at i and behind it exchanged
 --   Inverses   each weight has an inverse by the modulus: it takes part in telling values apart
 use mathlib.Core.Path.{_≡_}
 use mathlib.Core.List.{List, [], _∷_}
 use Prim.Native.Nat.{ℕ, zero, suc, _+_, _*_, _%_}
-use lib.ListN.{getD, set, take}
+use lib.ListN.{take}
 
 abbrev pub dot : List ℕ → List ℕ → ℕ
 dot [] xs = 0
@@ -21,9 +20,6 @@ turns w v (suc n) = w ∷ turns v w n
 
 abbrev pub after : List ℕ → List ℕ → ℕ → ℕ
 after ws xs i = dot ws (take i xs)
-
-abbrev pub swap : List ℕ → ℕ → List ℕ
-swap xs i = set (set xs i (getD xs (suc i) 0)) (suc i) (getD xs i 0)
 
 abbrev pub Inverses : ℕ → List ℕ → Type 0
 Inverses m [] = Unit {0}

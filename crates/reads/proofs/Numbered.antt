@@ -33,9 +33,9 @@ use Rattle.units.specs.Plans.{code39, codabar, industrial, interleaved, matrix,
 use Rattle.units.specs.Laid.{counted}
 use Rattle.units.proofs.Counted.{by-number}
 use Rattle.reads.specs.declared.kinds.Unit.{Unit}
-use Rattle.reads.specs.declared.kinds.Unit.the-variants.{Fixed, Char39, Letter, Inner, Industrial, Pair, Matrix, Odd, Left, Right}
+use Rattle.reads.specs.declared.kinds.Unit.the-variants.{Fixed, Char39, Letter, Inner, Industrial, Pair, Matrix, Odd, Left}
 use Rattle.reads.specs.Held.{kindOf, partedUnit, pairedUnit, halvedUnit, unitsBy, unitOf, unitCounts, unitCount}
-use Rattle.reads.proofs.Widths.{widthOf}
+use Rattle.reads.proofs.Widths.{sizeOf, widthOf}
 
 pub past-nine : (s : ℕ) → 3 ≤ s → Off (9 ∷ 8 ∷ 7 ∷ 6 ∷ 5 ∷ 4 ∷ 3 ∷ []) s → 10 ≤ s
 past-nine s h o = go (decLt s 10)
@@ -50,16 +50,7 @@ past-nine s h o = go (decLt s 10)
 -- ---- the fixed patterns
 
 abbrev small : Unit → Bool
-small (Fixed k c) = leb k 9 && ltb c (2 ^ k)
-small Char39 = true
-small Letter = true
-small Inner = true
-small Industrial = true
-small Pair = true
-small Matrix = true
-small Odd = true
-small Left = true
-small Right = true
+small u = leb (sizeOf u .1) 9 && ltb (sizeOf u .2) (2 ^ sizeOf u .1)
 
 abbrev tight : Unit → Bool
 tight u = ltb 0 (widthOf u) && small u

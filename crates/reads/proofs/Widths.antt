@@ -1,6 +1,7 @@
 -- How many elements a unit has, and whether so many are left of a strip: where they are not, the unit is in no row.
 --
---   widthOf   the elements of a unit, written out; wide, they are the width of what it may be
+--   sizeOf    a unit's elements, written out, and the elements and the code of its one pattern, 0 and 0 where it has a set
+--   widthOf   its elements; wide, they are the width of what it may be
 --   long      each row of a unit has so many
 --   inside    a unit that reaches no further than the strip, as the searches ask for it
 --   outside   a unit that reaches past the strip's end is in no row
@@ -28,17 +29,20 @@ use Rattle.reads.specs.Held.{kindOf, unitAt}
 use Rattle.reads.proofs.Modules.{said, denied}
 use Rattle.reads.proofs.Packing.{length-spread, unit-none}
 
+abbrev pub sizeOf : Unit → ℕ × ℕ × ℕ
+sizeOf (Fixed k c) = (k, k, c)
+sizeOf Char39 = (9, 0, 0)
+sizeOf Letter = (7, 0, 0)
+sizeOf Inner = (7, 0, 0)
+sizeOf Industrial = (9, 0, 0)
+sizeOf Pair = (10, 0, 0)
+sizeOf Matrix = (5, 0, 0)
+sizeOf Odd = (4, 0, 0)
+sizeOf Left = (4, 0, 0)
+sizeOf Right = (4, 0, 0)
+
 abbrev pub widthOf : Unit → ℕ
-widthOf (Fixed k c) = k
-widthOf Char39 = 9
-widthOf Letter = 7
-widthOf Inner = 7
-widthOf Industrial = 9
-widthOf Pair = 10
-widthOf Matrix = 5
-widthOf Odd = 4
-widthOf Left = 4
-widthOf Right = 4
+widthOf u = sizeOf u .0
 
 pub wide : (u : Unit) → width (kindOf u) ≡ widthOf u
 unfolding rows39 alphabet39 chars39 table42 innerRows letterRows alphabetCodabar table41 industrialRows interleavedRows matrixRows digitRows alphabetDigits table44 oddRows evenRows leftRows rightRows patterns table52 rowsOf

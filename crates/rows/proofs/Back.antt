@@ -6,7 +6,7 @@
 --   same-count               n characters are n - 1 and the check
 --   not-known, not-offered, not-held, not-even, all-passed    1, 2, 9, or the count passes
 --   count-turned, count-read    the row of a count that does not pass, and of one that does
---   count-given, fits        a count that passes is drawable, in a mode that is offered, and 1 to 34
+--   Drawable, count-given, fits    a count that passes is drawable, in a mode that is offered, and 1 to 34
 --   given-by, turned-by      the outcome that a verdict tells: at most 34 bytes, or an answer
 --   short, enough, copied    8, or the bytes in the lent buffer
 --

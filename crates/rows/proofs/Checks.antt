@@ -2,6 +2,7 @@
 --
 --   Sound       a rule whose check is the one value that brings the weighted sum to a multiple of the modulus
 --   sound43, sound-left, sound-right    the three rules are
+--   all-weights the weights of a whole row, the check's own last
 --   one-passes  exactly one character passes behind given ones: the check as document 01 words it
 --   caught      a row that passes does not pass with one of its characters replaced by another
 --
@@ -70,7 +71,6 @@ sound-right =
     (λ n. inverses-reverse 10 (turns 3 1 n) (inverses-turns 10 3 1 n (7, refl) (1, refl)))
 
 module _ (rule : Rule) (size : ℕ) (s : Sound rule size) where
-  -- the weights of a whole row, the check's own last
   abbrev pub all-weights : ℕ → List ℕ
   all-weights n = rule .weights n ++ (s .weight ∷ [])
 

@@ -1,23 +1,25 @@
 -- The coders are valid: what a byte draws is found again, and is of the alphabet.
 --
+--   byte-small  the bytes of a table are bytes
 --   Single      no byte draws a pair
 --   Drawable    every drawn character is one of the alphabet
+--   alone39, alone-digits, alone-codabar  the byte that draws a character alone
 --   plain39, plain-digits, codabar-all    by the alphabets, whose bytes and values undo one another
+--   placed-in                             a character of Codabar, wherever it stands
 --   back                                  full ASCII the other way: the byte of an item
 --   full-own, full-none                   a byte that draws an item is found; none where `back` has none
 --   full-ends                             found at the ends is found inside
 --   full-valid, full-drawable             by a test of the 256 bytes
---   alone39, alone-digits, alone-codabar  the byte that draws a character alone
 --
 -- Assumes nothing.
 use mathlib.Core.Path.{_≡_, refl, sym, ap, _∙_}
-use mathlib.Core.Bool.{Bool, true, false, _&&_, not}
+use mathlib.Core.Bool.{Bool, true, false, _&&_, not, and-false}
 use mathlib.Core.List.{List, [], _∷_}
 use Prim.Native.Nat.{ℕ, _+_, _-_, _<_, _≤_}
 use native.Mathlib.Omega.{arith}
 use native.Mathlib.Decide.{decLt}
 use lib.Dec.{eqb, ltb, leb}
-use lib.ListN.{length, getD}
+use lib.ListN.{length}
 use borrow.Author.Tests.{eqb-true, ltb-true, lt-leb, not-true}
 use Rattle.laws.specs.Search.{pick, first, indexIn}
 use Rattle.laws.specs.Elements.{alike}
@@ -82,11 +84,12 @@ module _ (a : Alphabet) (p : Proper a) (small : (b : ℕ) → valueOf a b < size
       go false e = tt
 
 -- the bytes of a table are bytes
-small-by : (a : Alphabet) → Proper a → every 0 (λ v b. ltb b 256) 0 (a .chars) ≡ true → (b : ℕ) → valueOf a b < size a → b < 256
+pub byte-small : (a : Alphabet) → every 0 (λ v b. ltb b 256) 0 (a .chars) ≡ true → (v : ℕ) → v < size a → byteOf a v < 256
 unfolding byteOf
-small-by a p t b h =
-    let e : getD (a .chars) (valueOf a b) 0 ≡ b = byte-value a p b h in
-    omega (arith, ltb-true (getD (a .chars) (valueOf a b) 0) 256 (every-at 0 (λ v b. ltb b 256) (a .chars) t (valueOf a b) h))
+byte-small a t v h = ltb-true (byteOf a v) 256 (every-at 0 (λ v b. ltb b 256) (a .chars) t v h)
+
+small-by : (a : Alphabet) → Proper a → every 0 (λ v b. ltb b 256) 0 (a .chars) ≡ true → (b : ℕ) → valueOf a b < size a → b < 256
+small-by a p t b h = rw (byte-value a p b h) at (byte-small a t (valueOf a b) h)
 
 -- no byte draws a pair
 abbrev pub Single : Coder → Type 0
@@ -124,7 +127,7 @@ pub plain-digits : Valid (plain alphabetDigits) × Single (plain alphabetDigits)
 unfolding alphabetDigits table44
 plain-digits = plain-all alphabetDigits proper-digits refl
 
-placed-in : (end : Bool) (v : ℕ) → placed end v ≡ true → v < 20
+pub placed-in : (end : Bool) (v : ℕ) → placed end v ≡ true → v < 20
 placed-in true v e = ltb-true v 20 (both-right (leb 16 v) (ltb v 20) e)
 placed-in false v e = omega (arith, ltb-true v 16 e)
 
@@ -177,10 +180,6 @@ all-sound = refl
 abbrev ending : List Range → Bool
 ending [] = true
 ending (r ∷ rs) = let t = ending rs in ltb (r .to) 256 && t
-
-and-false : (x : Bool) → (x && false) ≡ false
-and-false true = refl
-and-false false = refl
 
 past : (rs : List Range) (b : ℕ) → ending rs ≡ true → 256 ≤ b → drawnIn rs b ≡ []
 past [] b t h = refl

@@ -1,13 +1,13 @@
 -- What stands behind the spelled characters, and the refusals 5, 6 and 7: the arms of `finish`, and what they come to.
 --
---   is-odd .. pushed-on    each return of `finish` is what `finished` says
+--   is-odd, crowded, checkless, wrong, pushed-on    each return of `finish` is what `finished` says: 5, 6, no check, 7, the check pushed on
 --   told-finished          on a spelled head, `finished` is what document 01 judges: the row with its check, or the refusal
---   not-spelled, not-raw, finished-row       a row from what was spelled
+--   not-spelled, spelled-len, not-raw, finished-row    a row from what was spelled
 --
 -- Assumes nothing.
 use mathlib.Core.Path.{_≡_, refl, sym, ap, _∙_}
 use mathlib.Core.Logic.{_⊎_, inl, inr}
-use mathlib.Core.Bool.{Bool, true, false, _&&_, not}
+use mathlib.Core.Bool.{Bool, true, false, not, and-false}
 use mathlib.Core.List.{List, [], _∷_, _++_, append-nil}
 use Prim.Native.Nat.{ℕ, zero, suc, _+_, _-_, _<_, _≤_}
 use native.Mathlib.Omega.{arith}
@@ -32,10 +32,6 @@ use Rattle.rows.specs.Held.{pad, rowIn, pushed, spelledIn, told, closed,
 use Rattle.rows.proofs.Ends.{front-snoc, final-snoc}
 use Rattle.rows.proofs.Loops.{push-in, take-pad}
 use Rattle.rows.proofs.Readings.{Whole, stop-from, whole-from}
-
-and-false : (b : Bool) → (b && false) ≡ false
-and-false true = refl
-and-false false = refl
 
 -- ---- the arms
 
@@ -74,7 +70,7 @@ behind-tests false false x w z o s = s refl
 
 -- the last part of both, for a row q of the head and what is behind it
 module _ (y : Symbology) (m : ℕ) (h q : List ℕ) (v : ℕ) (n : length h + pick (eqb m 0) 0 1 ≡ length q) where
-  pub same-judged : (length q ≤ y .room → closed m (rowIn h) v (checkOf (y .rule) (take (length h) (pad 34 h))) ≡ told (pick (passes (y .rule) m q) (gives q) (wrongCheck q)))
+  same-judged : (length q ≤ y .room → closed m (rowIn h) v (checkOf (y .rule) (take (length h) (pad 34 h))) ≡ told (pick (passes (y .rule) m q) (gives q) (wrongCheck q)))
       → finished y m (rowIn h) v ≡ told (judged y m q)
   unfolding finished
   same-judged s = rw n (behind-tests (odd y (length q)) (ltb (y .room) (length q)) OddCount TooManyDrawn _ _ (λ f. s (ltb-false (y .room) (length q) f)))

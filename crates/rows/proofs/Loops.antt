@@ -1,8 +1,10 @@
 -- The loops that spell and read back: what is done, and the same function on what is left.
 --
---   push-in, put-in     a list in a row, with characters behind it; places, its 34 places
---   Spelling            i bytes are spelled: `start`, `next`, `refused`, `ended`
---   Unspelling          the same for characters read back
+--   places, push-in, take-pad    a list in a row: its 34 places, with a character behind it, taken out again
+--   Spelling            i bytes are spelled: `start`, `next`, `refused`, `ended`; few-chars, the characters are few
+--   item-two, item-one    the item at a place: a pair, or a character
+--   Unspelling          items are read back up to a place: `begin`, `item-next`, `item-refused`, `read-back`; width-fits, few-bytes, an
+--                       item is not empty and ends in time, and the bytes are few
 --
 -- Assumes nothing.
 use mathlib.Core.Path.{_≡_, refl, sym, ap, _∙_}
@@ -47,7 +49,7 @@ push-in cs v =
     let b : length cs + 1 ≡ length (cs ++ (v ∷ [])) = sym (length-append cs (v ∷ [])) in
     cc
 
-pub put-in : (cs ds : List ℕ) → putAll (rowIn cs) ds ≡ rowIn (cs ++ ds)
+put-in : (cs ds : List ℕ) → putAll (rowIn cs) ds ≡ rowIn (cs ++ ds)
 put-in cs [] = rw append-nil
 put-in cs (d ∷ ds) = ap (λ (r : Row). putAll r ds) (push-in cs d) ∙ put-in (cs ++ (d ∷ [])) ds ∙ rw append-assoc
 
@@ -56,7 +58,7 @@ take-pad n [] h = refl
 take-pad zero (c ∷ cs) h = absurd (omega arith)
 take-pad (suc n) (c ∷ cs) h = ap (λ (l : List ℕ). c ∷ l) (take-pad n cs (omega arith))
 
-pub piece-short : (p : Piece) → length (pieceList p) ≤ 2
+piece-short : (p : Piece) → length (pieceList p) ≤ 2
 piece-short (Alone c) = omega arith
 piece-short (Pair c d) = omega arith
 piece-short Nothing = omega arith
@@ -86,7 +88,7 @@ both-ways true = refl
 both-ways false = refl
 
 -- the place i of n: what stands behind it tells whether it is the last
-pub at-end : (xs : List ℕ) (i : ℕ) → i < length xs → atEnd (eqb i 0) (drop (suc i) xs) ≡ isEnd i (length xs)
+at-end : (xs : List ℕ) (i : ℕ) → i < length xs → atEnd (eqb i 0) (drop (suc i) xs) ≡ isEnd i (length xs)
 at-end xs i h = go (decLt (suc i) (length xs))
   where
     go : Dec (suc i < length xs) → atEnd (eqb i 0) (drop (suc i) xs) ≡ isEnd i (length xs)

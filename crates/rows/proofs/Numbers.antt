@@ -1,11 +1,12 @@
 -- The symbologies by the numbers that the code matches on: every number but 1, 2 and 3 draws digits.
 --
---   others    coder and alphabet of every other number
---   shifting  a character that begins a pair is /, + or %, in full ASCII
---   shift-low, shift-mid, shift-high, shift-from    and those three do begin one
---   pair-full, alone-full  the byte that draws a pair, or a character
---   room-small   34 places are room enough
+--   Digits, others    coder and alphabet of every other number
+--   shift-low, shift-mid, shift-high, shift-from    /, + and % begin a pair of full ASCII, and no other character
+--   unshifted    in no other symbology does one
+--   Shifting, shifting    so a character that begins a pair is one of the three, in full ASCII
+--   pair-full, alone-full    the byte that draws a pair, or a character
 --   only-five, only-two    only Interleaved asks for an even count, and only full ASCII for fewer than 34
+--   room-small   34 places are room enough
 --
 -- Assumes nothing.
 use mathlib.Core.Path.{_≡_, refl, sym, _∙_}

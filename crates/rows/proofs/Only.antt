@@ -1,10 +1,6 @@
 -- One answer for each input of this crate's public functions, and one content of the lent buffer.
 -- Assumes nothing.
-use mathlib.Core.Path.{_≡_}
-use borrow.Fn.Kinds.{Dens, resT, endedOf}
-use contract.Lifetimes.{Lfts}
-use denote.Triple.Clauses.{AtExit}
-use Rattle.laws.specs.One.{One}
+use Rattle.laws.specs.One.{One, OneBuffer}
 use Rattle.laws.proofs.Only.{only}
 use Rattle.rows.proofs.row_of.Reads as RowOf
 use Rattle.rows.proofs.row_of.Kinds as RowOfKinds
@@ -27,6 +23,5 @@ judge-count κs a p q x y = only
 pub data-of : One 1 DataOfKinds.ps DataOfKinds.r DataOf.Learnt
 data-of κs a p q x y h k = only (h .0) (k .0)
 
-pub data-of-buffer : (κs : Lfts 1) (a : Dens κs DataOfKinds.ps) (p q : resT DataOfKinds.r κs .Denot) (x y : AtExit (endedOf 1 DataOfKinds.ps DataOfKinds.r) κs)
-    → DataOf.Learnt κs a p x → DataOf.Learnt κs a q y → x .1 .1 .1 .0 .now ≡ y .1 .1 .1 .0 .now
+pub data-of-buffer : OneBuffer 1 DataOfKinds.ps DataOfKinds.r (λ κs x. x .1 .1 .1 .0 .now) DataOf.Learnt
 data-of-buffer κs a p q x y h k = only (h .1) (k .1)

@@ -2,15 +2,15 @@
 --
 --   told-first, told-next    a test that turns away, and one that lets on
 --   known-is, offered-is, holds-is    the limits in hand are the symbology's
---   in-mode, in-bounds    what the tests 2 and 3 say of mode and count
+--   in-mode, in-bounds, in-part    what the tests 2 and 3 say of mode and count, and of the data bytes in a field
 --   behind-2     an answer behind 1 and 2
---   turned-1 .. turned-13, let-on    the returns of `row_of_field`
+--   turned-1, turned-2, turned-3, turned-short, turned-13, let-on    the returns of `row_of_field`
 --
 -- Assumes nothing.
 use mathlib.Core.Path.{_≡_, sym, ap, _∙_}
 use mathlib.Core.Bool.{Bool, true, false, _&&_, not}
 use mathlib.Core.List.{List}
-use Prim.Native.Nat.{ℕ, _+_, _-_, _<_, _≤_}
+use Prim.Native.Nat.{ℕ, _+_, _<_, _≤_}
 use native.Mathlib.Omega.{arith}
 use lib.Dec.{leb}
 use lib.ListN.{length, getD, take, drop, length-drop}

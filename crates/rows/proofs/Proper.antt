@@ -1,5 +1,6 @@
 -- What the theorems ask of a symbology, shown of every number once: a symbology is data, and so is this.
 --
+--   given      the byte that mode 1 does not spell
 --   Counts     of a mode that is offered: it takes at least one byte, and what it draws fits the room
 --   Loose      where a byte may draw a pair: the room is all that a mode takes, and nothing but a first byte is asked for
 --   Proper     a valid coder, a proper alphabet, checks that are characters, a sound rule where there is one, those counts
@@ -27,13 +28,12 @@ use Rattle.tables.proofs.Alphabets as Alphabets
 use Rattle.rows.specs.declared.limits.Limits.{Limits}
 use Rattle.rows.specs.Limits.{_to_, none, modes, unknown, offered}
 use Rattle.rows.specs.Coders.{plain, fullCoder}
-use Rattle.rows.specs.Checks.{Rule, by43, left10, right10, noCheck}
+use Rattle.rows.specs.Checks.{Rule, nextTen, by43, left10, right10, noCheck}
 use Rattle.rows.specs.Symbologies.{Symbology, digits, code39, codabar, symbologies, symbologyOf}
 use Rattle.rows.specs.Rows.{added}
 use Rattle.rows.proofs.Coders.{Single, Drawable, plain39, plain-digits, codabar-all, full-valid, full-drawable}
 use Rattle.rows.proofs.Checks.{Sound, sound43, sound-left, sound-right}
 
--- the byte that mode 1 does not spell
 abbrev pub given : ℕ → ℕ
 given m = pick (eqb m 1) 1 0
 
@@ -104,7 +104,7 @@ checkless l r n k t (suc m) o z = go (decLt m 2)
     go (yes h) = absurd (omega (arith, line 2 (λ i. getD (l .most) (suc i) 0) (λ i. 0) t m h, ltb-true 0 (getD (l .most) (suc m) 0) o))
     go (no h) = absurd (omega (arith, List·getD-eq-default (l .most) 0 {n = suc m} (omega arith), ltb-true 0 (getD (l .most) (suc m) 0) o))
 
-ten : (sum : ℕ) → (10 - sum % 10) % 10 < 10
+ten : (sum : ℕ) → nextTen sum < 10
 ten sum = mod-lt (10 - sum % 10) (omega arith)
 
 digital : (l : Limits) (r : Rule) (e : Bool) → ((sum : ℕ) → r .check sum < 10) → ((m : ℕ) → offered l m ≡ true → m ≢ 0 → Sound r 10) → length (l .most) ≡ 3 → upto 3 (count-test (digits l r e)) ≡ true → Proper (digits l r e)

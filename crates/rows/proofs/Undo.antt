@@ -1,10 +1,13 @@
 -- `dataOf` and `rowOf` undo one another, for every symbology number and mode by one argument: the coder's spelling and its way
 -- back, and the check behind it.
 --
---   undo          rowOf s m d gives r exactly if dataOf s m r gives d
+--   past-turned     one test passed
+--   Undrew, undrew, undrawn    a row that is read, each way
+--   held            a count that is held
+--   empty-rest      nothing stands behind the data alone
 --   Reads, reads    what a row that reads has passed
---   past-turned, held, Undrew, undrew, undrawn    one test passed; a count that is held; a row that is read, each way
---   same-data     so two data that give one row are the same, zeros at the front counted
+--   undo            rowOf s m d gives r exactly if dataOf s m r gives d
+--   same-data       so two data that give one row are the same, zeros at the front counted (for the reader: demand 3 says it of strips)
 --
 -- Assumes nothing.
 use mathlib.Core.Path.{_≡_, refl, sym, ap, _∙_}
@@ -21,8 +24,8 @@ use borrow.Author.Tests.{ltb-true, ltb-false, leb-true, le-leb, le-ltb, lt-ltb, 
 use Rattle.laws.specs.Search.{pick}
 use Rattle.laws.specs.Units.{Reading, found, stopped}
 use Rattle.laws.specs.Spelling.{spell, unspell}
-use Rattle.laws.proofs.Finite.{both-left, both-right}
-use Rattle.laws.proofs.Spelling.{spell-unspell, unspell-spell, spell-long, spell-same}
+use Rattle.laws.proofs.Finite.{both-left, both-right, both-true}
+use Rattle.laws.proofs.Spelling.{spell-unspell, unspell-spell, found-nil, spell-long, spell-same}
 use Rattle.words.specs.declared.Answer.{Answer}
 use Rattle.words.specs.declared.Answer.the-variants.{NoSymbology, NoMode, BadCount, OddCount, TooManyDrawn, BadLength, FieldNotZero}
 use Rattle.tables.specs.Alphabet.{size, valueOf, byteOf}
@@ -202,10 +205,7 @@ behind : (h r : List ℕ) (c : ℕ) → h ++ (c ∷ []) ≡ r → length r ≡ l
 behind h r c e = rw (← e) (length-append h (c ∷ []))
 
 nothing : (y : Symbology) (b h : List ℕ) → spell (y .coder) true 0 b ≡ found h → length b ≡ 0 → length h ≡ 0
-nothing y [] h e l = ap length (sym (found-same h e))
-  where
-    found-same : (h : List ℕ) → found [] ≡ found h → [] ≡ h
-    found-same h e = cc
+nothing y [] h e l = ap length (sym (found-nil h e))
 nothing y (x ∷ b) h e l = absurd (omega arith)
 
 sizes : (y : Symbology) (m : ℕ) (d r : List ℕ) → m < 3 → 0 < length d → Drew y m d r → Sizes y m d r
@@ -300,10 +300,8 @@ draws-on : (k o n t : Bool) (a : Answer) (z : Outcome) (r : List ℕ) → k ≡ 
     → pick (not k) (turned NoSymbology) (pick (not o) (turned NoMode) (pick (not n) (turned BadCount) (pick t (turned a) z))) ≡ gives r
 draws-on k o n t x z r a b c f e = rw (a, b, c, f) e
 
-both-true : (a b : Bool) → a ≡ true → b ≡ true → (a && b) ≡ true
-both-true a b p q = rw (p, q)
-
-empty-rest : (d : List ℕ) → unclean (length d) d ≡ false
+-- nothing stands behind the data alone
+pub empty-rest : (d : List ℕ) → unclean (length d) d ≡ false
 empty-rest d = rw drop-length
 
 there : (s m : ℕ) (d r : List ℕ) → rowOf s m d ≡ gives r → dataOf s m r ≡ gives d

@@ -2,7 +2,8 @@
 --
 --   check-is     in modes 1 and 2 the last character is the check
 --   in-set       every character of a row that reads is of its set
---   drawn-few, drawn-in    so is every character of a row that is drawn, and there are 1 to 34
+--   drawn-few    a row that is drawn has 1 to 34 characters
+--   drawn-in     each of its set (for the reader: `ready` in units says it by place)
 --
 -- Assumes nothing.
 use mathlib.Core.Path.{_≡_}

@@ -1,10 +1,10 @@
 -- The check character (document 01, "Checks").
 --
 --   Rule        a modulus, the weights of n characters before the check, and the check of their weighted sum
+--   nextTen     what brings a sum to the next multiple of ten, 0 where it is one already
 --   by43        sum of the values, remainder by 43
 --   left10      modulus 10, odd positions counted from the left weigh 1, even ones 3 (source 001, 4.6)
 --   right10     modulus 10, the rightmost weighs 3, then 1, 3 and so on
---   nextTen     what brings a sum to the next multiple of ten, 0 where it is one already
 --   noCheck     no rule: modes 1 and 2 are not offered
 --   front, final    a row without its last character, and that character
 --   checkOf     the check of the characters before it

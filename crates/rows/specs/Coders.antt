@@ -1,9 +1,12 @@
 -- What each byte draws, as values of its alphabet (document 01, "Two-width strips", "Full ASCII").
 --
+--   single         a character, if the test passes
 --   alphabetic     each character of an alphabet draws itself, where its place allows it
 --   plain          everywhere
---   codabarCoder   at the ends one of the letters A, B, C, D, inside one of the others
---   fullCoder      full ASCII: the drawing codes of 10.1.3; / + and % begin a pair
+--   placed         Codabar's places: at the ends the letters A, B, C, D, inside the others
+--   codabarCoder   by these places
+--   shifts         / + and %
+--   fullCoder      full ASCII: the drawing codes of 10.1.3; the shifts begin a pair
 use mathlib.Core.Bool.{Bool, false, _&&_}
 use mathlib.Core.List.{List, [], _∷_, map}
 use Prim.Native.Nat.{ℕ}
@@ -16,18 +19,15 @@ use Rattle.tables.specs.Code39.{alphabet39}
 use Rattle.tables.specs.Codabar.{alphabetCodabar}
 use Rattle.tables.specs.FullAscii.{drawing}
 
--- a character, if the test passes
 abbrev pub single : Bool → ℕ → List ℕ
 single ok v = pick ok (v ∷ []) []
 
--- each character of an alphabet draws itself, where its place allows it
 abbrev pub alphabetic : Alphabet → (Bool → ℕ → Bool) → Coder
 alphabetic a allowed = record { drawn = λ end b. single (allowed end (valueOf a b)) (valueOf a b); shift = λ c. false }
 
 unfoldable pub plain : Alphabet → Coder
 plain a = alphabetic a (λ end v. ltb v (size a))
 
--- the letters at the ends, the others inside
 abbrev pub placed : Bool → ℕ → Bool
 placed end v = pick end (leb 16 v && ltb v 20) (ltb v 16)
 

@@ -8,11 +8,13 @@
 --   itemOf         the item that characters begin with
 --   Small, taken   a weighted sum that can't overflow, and with one value more
 --   weighed        the total when all values are taken up
---   told           an outcome as the code holds it
---   finished       5, 6, 7 and the row
---   judgedCount    whether a mode can give a drawn count
---   dataOfRow, handedOf, written    a row's data, the answer, and the lent buffer afterwards
+--   sumBy          an empty sum; fromRight, with the weights of n characters, of which the rightmost weighs 3
 --   starts, startOf    empty sums with the weights of n characters, by symbology number
+--   told           an outcome as the code holds it
+--   closed         the check, behind the head or refused; finished, 5, 6, 7 and the row
+--   judge          1, 2, 9, or nothing against it; judgedCount, whether a mode can give a drawn count
+--   dataOfRow      a row's data: of its first `len` places
+--   byteCount, handedOf, written    the answer, 8 where the lent buffer has less room, and the buffer afterwards
 use mathlib.Core.Bool.{Bool, true, false, _&&_, not}
 use mathlib.Core.List.{List, [], _∷_, _++_}
 use Prim.Native.Nat.{ℕ, zero, suc, _+_, _*_, _%_, _≤_}
@@ -95,11 +97,9 @@ weighed s (v ∷ vs) = weighed (taken s v) vs
 abbrev pub sumBy : ℕ → ℕ → ℕ → Sum
 sumBy m w o = record { modulus = m; weight = w; other = o; total = 0 }
 
--- the rightmost of n weighs 3
 abbrev pub fromRight : ℕ → Sum
 fromRight n = pick (eqb (n % 2) 1) (sumBy 10 3 1) (sumBy 10 1 3)
 
--- by number
 abbrev pub starts : ℕ → List Sum
 starts n =
     sumBy 1 0 0
@@ -123,34 +123,30 @@ abbrev pub told : Outcome → Rowed
 told (gives cs) = record { verdict = Given; row = rowIn cs }
 told (turned a) = record { verdict = Turned a; row = rowIn [] }
 
--- the check, behind the head or refused
 abbrev pub closed : ℕ → Row → ℕ → ℕ → Rowed
 closed m head v c =
     pick (eqb m 0) (record { verdict = Given; row = head })
     (pick (eqb m 1 && not (eqb v c)) (told (turned (BadCheck (charPlace (head .len))))) (record { verdict = Given; row = pushed head c }))
 
--- 5, 6, 7 of a head, and in mode 1 of the check that was given
+-- v is the check that was given, in mode 1
 unfoldable pub finished : Symbology → ℕ → Row → ℕ → Rowed
 finished y m head v =
     pick (odd y (head .len + pick (eqb m 0) 0 1)) (told (turned OddCount))
     (pick (ltb (y .room) (head .len + pick (eqb m 0) 0 1)) (told (turned TooManyDrawn))
     (closed m head v (checkOf (y .rule) (take (head .len) (head .codes)))))
 
--- 1, 2, 9, or nothing against it
 abbrev pub judge : Bool → Bool → Bool → Verdict
 judge unknown unoffered undrawn = pick unknown (Turned NoSymbology) (pick unoffered (Turned NoMode) (pick undrawn (Turned BadLength) Given))
 
 unfoldable pub judgedCount : ℕ → ℕ → ℕ → Verdict
 judgedCount s m n = judge (not (symbologyOf s .limits .known)) (not (offered (symbologyOf s .limits) m)) (not (drawable (symbologyOf s) m n))
 
--- the data of a row as it stands: its first `len` places
 unfoldable pub dataOfRow : ℕ → ℕ → Row → Outcome
 dataOfRow s m row = dataOfCount s m (row .len) (take (row .len) (row .codes))
 
 abbrev pub byteCount : ℕ → Bytes
 byteCount n = record { 0 = n }
 
--- 8: the answer where the lent buffer has so many places
 abbrev pub handedOf : Outcome → ℕ → Handed
 handedOf (gives d) room = pick (ltb room (length d)) (HandedTurned (ShortForData (byteCount (length d)))) (Data (byteCount (length d)))
 handedOf (turned a) room = HandedTurned a

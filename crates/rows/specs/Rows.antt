@@ -1,9 +1,27 @@
 -- Data to row and row to data, with document 01's refusals in its order. A row is the drawn characters, as values.
 --
 --   Outcome     a list, or the answer that turns the input away
+--   dataPlace, charPlace    an index as a place in the data, or among the drawn characters
+--   odd         5's test, for n drawn characters
+--   wrongCheck  7: the last character of a row is not its check; its index among the drawn characters
+--
+-- Drawing:
+--   bodyOf      the bytes that are spelled: in mode 1 the last byte is the check, a raw character
+--   raw         whether it is one
+--   ending      what is drawn behind the spelled characters: nothing, the check that was given, or the check worked out
+--   judged      5, 6, 7, then the row
+--   spelled, drawnRow    4, then that
+--   nonzero     the index of the first byte that is not zero, or the length; unclean, whether there is one behind the data
 --   rowOfField  a job record's field with its count: 1, 2, 3, 13, 4, 5, 6, 7, then the row
 --   rowOf       plain data: a field of just its length, so that 13 can't come
---   dataOf      a row to its data: 1, 2, 9 (the mode gives no such drawn count), 12, 7, then the data
+--
+-- Reading:
+--   headOf      the characters that are a whole spelling: in modes 1 and 2 the last is the check
+--   kept        mode 1 hands the check back, mode 2 does not
+--   added       the check that mode 2 adds to the data; drawable, a drawn count that the mode can give
+--   unspelled, readRow    12, 7, then the data
+--   dataOfCount 1, 2, 9 (the mode gives no such drawn count), 12, 7: of a row with its number
+--   dataOf      of a row
 use mathlib.Core.Bool.{Bool, true, _&&_, not}
 use mathlib.Core.List.{List, [], _∷_, _++_}
 use Prim.Native.Nat.{ℕ, _+_, _-_, _%_}
@@ -34,20 +52,17 @@ charPlace i = record { 0 = i }
 abbrev pub odd : Symbology → ℕ → Bool
 odd y n = y .even && eqb (n % 2) 1
 
--- the last character of a row is not its check: its index among the drawn characters
 abbrev pub wrongCheck : List ℕ → Outcome
 wrongCheck r = turned (BadCheck (charPlace (length r - 1)))
 
 -- ---- drawing
 
--- in mode 1 the last byte is the check, a raw character; the bytes before it are spelled
 abbrev pub bodyOf : ℕ → List ℕ → List ℕ
 bodyOf m d = pick (eqb m 1) (front d) d
 
 abbrev pub raw : Symbology → ℕ → List ℕ → Bool
 raw y m d = pick (eqb m 1) (ltb (valueOf (y .alphabet) (final d)) (size (y .alphabet))) true
 
--- what is drawn behind the spelled characters: nothing, the check that was given, or the check worked out
 abbrev pub ending : Symbology → ℕ → List ℕ → List ℕ → List ℕ
 ending y m d h = pick (eqb m 0) [] (pick (eqb m 1) (valueOf (y .alphabet) (final d) ∷ []) (checkOf (y .rule) h ∷ []))
 
@@ -66,11 +81,9 @@ spelled y m d (found h) = pick (raw y m d) (judged y m (h ++ ending y m d h)) (t
 unfoldable pub drawnRow : Symbology → ℕ → List ℕ → Outcome
 drawnRow y m d = spelled y m d (spell (y .coder) true 0 (bodyOf m d))
 
--- the index of the first byte that is not zero, or the length
 abbrev pub nonzero : List ℕ → ℕ
 nonzero rest = first (λ b. not (eqb b 0)) rest
 
--- whether a byte behind the data is not zero
 abbrev pub unclean : ℕ → List ℕ → Bool
 unclean count field = ltb (nonzero (drop count field)) (length (drop count field))
 
@@ -88,19 +101,15 @@ rowOf s m d = rowOfField s m (length d) d
 
 -- ---- reading
 
--- in modes 1 and 2 the last character is the check; those before it are a whole spelling
 abbrev pub headOf : ℕ → List ℕ → List ℕ
 headOf m r = pick (eqb m 0) r (front r)
 
--- mode 1 hands the check back, mode 2 does not
 abbrev pub kept : Symbology → ℕ → List ℕ → List ℕ
 kept y m r = pick (eqb m 1) (byteOf (y .alphabet) (final r) ∷ []) []
 
--- the check that mode 2 adds to the data
 abbrev pub added : ℕ → ℕ
 added m = pick (eqb m 2) 1 0
 
--- a drawn count that the mode can give
 abbrev pub drawable : Symbology → ℕ → ℕ → Bool
 drawable y m n = holds (y .limits) m (n - added m) && not (odd y n)
 
@@ -112,7 +121,7 @@ unspelled y m r (found d) = pick (passes (y .rule) m r) (gives (d ++ kept y m r)
 unfoldable pub readRow : Symbology → ℕ → List ℕ → Outcome
 readRow y m r = unspelled y m r (unspell (y .coder) true 0 (headOf m r))
 
--- 1, 2, 9: of a row with its number
+-- 1, 2, 9
 unfoldable pub dataOfCount : ℕ → ℕ → ℕ → List ℕ → Outcome
 dataOfCount s m n r =
     pick (not (symbologyOf s .limits .known)) (turned NoSymbology)

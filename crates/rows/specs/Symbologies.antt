@@ -2,7 +2,8 @@
 --
 --   Symbology     what its modes take, its alphabet, what bytes draw, its check rule, whether the drawn count must be even
 --                 (Interleaved, 5), and how many characters may be drawn (full ASCII, 6; elsewhere the row's 34 places)
---   symbologyOf   by number; any other number is unknown
+--   digits, code39, codabar    those that draw digits, the two of Code 39, and Codabar
+--   symbologies, symbologyOf   by number; any other number is unknown
 use mathlib.Core.Bool.{Bool, true, false}
 use mathlib.Core.List.{List, [], _∷_}
 use Prim.Native.Nat.{ℕ}
@@ -25,7 +26,6 @@ pub record Symbology : Type 0 where
   pub even : Bool
   pub room : ℕ
 
--- digits only
 abbrev pub digits : Limits → Rule → Bool → Symbology
 digits l r e = record { limits = l; alphabet = alphabetDigits; coder = plain alphabetDigits; rule = r; even = e; room = 34 }
 

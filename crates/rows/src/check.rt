@@ -63,6 +63,7 @@ fn start_of(symbology: u8, n: usize) -> Sum
     }
 }
 
+// An empty sum, with the weight due and the other one.
 fn sum_by(modulus: usize, weight: usize, other: usize) -> Sum
     ensures { λ r. ⌜ r ≡ record { modulus = modulus; weight = weight; other = other; total = 0 } ⌝ }
 {

@@ -40,7 +40,7 @@ fn plain(value: u8, size: u8) -> Piece
     }
 }
 
-// Codabar: the letters at the ends, the others inside.
+// Whether a character of Codabar may stand there: the letters at the ends, the others inside.
 fn is_placed(end: bool, value: u8) -> bool
     ensures { λ r. ⌜ r ≡ placed end value ⌝ }
 {
@@ -54,6 +54,7 @@ fn is_placed(end: bool, value: u8) -> bool
     }
 }
 
+// A character of Codabar that draws itself, if it may stand there.
 fn codabar(end: bool, value: u8) -> Piece
     ensures { λ r. ⌜ pieceList r ≡ single (placed end value) value ⌝ }
 {
@@ -107,7 +108,7 @@ pub fn is_nothing(piece: Piece) -> bool
     }
 }
 
-// The value of a byte in the symbology's alphabet, and the number of its characters.
+// The value of a byte in the symbology's alphabet, or the number of its characters.
 pub fn value_of(symbology: u8, byte: u8) -> u8
     ensures { λ r. ⌜ r ≡ valueOf (symbologyOf symbology .alphabet) byte ⌝ }
 {
@@ -119,6 +120,7 @@ pub fn value_of(symbology: u8, byte: u8) -> u8
     }
 }
 
+// The number of characters of the symbology's alphabet.
 pub fn size_of(symbology: u8) -> u8
     ensures { λ r. ⌜ r ≡ size (symbologyOf symbology .alphabet) ⌝ }
 {
@@ -142,13 +144,14 @@ pub fn byte_of(symbology: u8, value: u8) -> u8
     }
 }
 
-// The byte that draws a character alone, or 256.
+// A byte, if it is one, or 256.
 fn own_byte(ok: bool, byte: u8) -> u16
     ensures { λ r. ⌜ r ≡ pick ok byte 256 ⌝ }
 {
     if ok { byte as u16 } else { 256 }
 }
 
+// The byte that draws a character alone, or 256.
 pub fn alone(symbology: u8, end: bool, value: u8) -> u16
     ensures { λ r. ⌜ r ≡ byteFor (symbologyOf symbology .coder) end (value ∷ []) ⌝ }
 {
@@ -160,7 +163,7 @@ pub fn alone(symbology: u8, end: bool, value: u8) -> u16
     }
 }
 
-// Whether a character begins a pair, and the byte that draws a pair, or 256.
+// Whether a character begins a pair.
 pub fn is_shift(symbology: u8, value: u8) -> bool
     ensures { λ r. ⌜ r ≡ symbologyOf symbology .coder .shift value ⌝ }
 {
@@ -174,6 +177,7 @@ pub fn is_shift(symbology: u8, value: u8) -> bool
     }
 }
 
+// The byte that draws a pair, or 256.
 pub fn pair(symbology: u8, end: bool, shift: u8, letter: u8) -> u16
     requires { ⌜ symbologyOf symbology .coder .shift shift ≡ true ⌝ }
     ensures { λ r. ⌜ r ≡ byteFor (symbologyOf symbology .coder) end (shift ∷ letter ∷ []) ⌝ }

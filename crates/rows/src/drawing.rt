@@ -31,6 +31,7 @@ pub struct Rowed {
     pub row: Row,
 }
 
+// An answer, with an empty row.
 pub fn turn_away(answer: Answer) -> Rowed
     ensures { λ r. ⌜ r ≡ told (turned answer) ⌝ }
 {
@@ -171,6 +172,7 @@ fn spelled_row(symbology: u8, mode: u8, text: &[u8]) -> Rowed
     finish(symbology, mode, row, 0)
 }
 
+// The row of a field, by the tests in their order.
 pub fn row_of_field(symbology: u8, mode: u8, count: usize, field: &[u8]) -> Rowed
     ensures { λ r. ⌜ r ≡ told (rowOfField symbology mode count (now (field .entry))) ⌝ }
 {

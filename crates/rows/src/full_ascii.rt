@@ -6,7 +6,7 @@ ghost use Rattle.laws.specs.Spelling.{byteFor};
 ghost use Rattle.rows.specs.Coders.{fullCoder};
 ghost use Rattle.rows.specs.Held.{pieceList};
 
-// The characters that a byte draws.
+// The characters that a byte draws: one, a shift character and a letter, or none where it is refused.
 pub enum Piece {
     Alone(u8),
     Pair(u8, u8),
@@ -36,6 +36,7 @@ const W: u8 = 32;
 
 const Z: u8 = 35;
 
+// The characters that a byte draws, range by range.
 pub fn drawn(byte: u8) -> Piece
     ensures { λ r. ⌜ pieceList r ≡ fullCoder .drawn true byte ⌝ }
 {
@@ -58,7 +59,7 @@ pub fn drawn(byte: u8) -> Piece
     }
 }
 
-// The byte that a character draws alone, or 256.
+// The byte that draws a character alone, or 256.
 pub fn alone(value: u8) -> u16
     ensures { λ r. ⌜ r ≡ byteFor fullCoder true (value ∷ []) ⌝ }
 {
@@ -69,7 +70,7 @@ pub fn alone(value: u8) -> u16
     }
 }
 
-// The bytes that pairs draw, or 256: behind /, + and %.
+// The byte that draws a pair, by the character behind /, or 256.
 pub fn behind_slash(value: u8) -> u16
     ensures { λ r. ⌜ r ≡ byteFor fullCoder true (40 ∷ value ∷ []) ⌝ }
 {
@@ -81,6 +82,7 @@ pub fn behind_slash(value: u8) -> u16
     }
 }
 
+// Behind +.
 pub fn behind_plus(value: u8) -> u16
     ensures { λ r. ⌜ r ≡ byteFor fullCoder true (41 ∷ value ∷ []) ⌝ }
 {
@@ -90,6 +92,7 @@ pub fn behind_plus(value: u8) -> u16
     }
 }
 
+// Behind %.
 pub fn behind_percent(value: u8) -> u16
     ensures { λ r. ⌜ r ≡ byteFor fullCoder true (42 ∷ value ∷ []) ⌝ }
 {

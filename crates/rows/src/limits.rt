@@ -9,6 +9,7 @@ pub struct Limits {
     pub most: [u8; 3],
 }
 
+// The limits of a symbology, by number; any other number is not known.
 pub fn limits_of(symbology: u8) -> Limits
     ensures { λ r. ⌜ r ≡ symbologyOf symbology .limits ⌝ }
 {

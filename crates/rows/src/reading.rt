@@ -24,7 +24,7 @@ pub enum Handed {
     Turned(Answer),
 }
 
-// 12 and 7: what the first n characters spell, and whether the check is right.
+// 12 and 7: what the characters spell, and in modes 1 and 2 whether the check is right.
 fn judged_row(symbology: u8, mode: u8, row: Row) -> Rowed
     requires { ⌜ (mode < 3) × ((0 < row .len) × (row .len ≤ 34)) ⌝ }
     ensures { λ r. ⌜ r ≡ told (readRow (symbologyOf symbology) mode (take (row .len) (row .codes))) ⌝ }
@@ -104,6 +104,7 @@ pub fn judge_count(symbology: u8, mode: u8, n: usize) -> Verdict
     Verdict::Given
 }
 
+// The data of a row, as a row of bytes.
 pub fn read_row(symbology: u8, mode: u8, row: Row) -> Rowed
     ensures { λ r. ⌜ r ≡ told (dataOfRow symbology mode row) ⌝ }
 {

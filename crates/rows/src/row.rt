@@ -10,6 +10,7 @@ pub struct Row {
     pub len: usize,
 }
 
+// A row of no characters.
 pub fn empty() -> Row
     ensures { λ r. ⌜ r ≡ rowIn [] ⌝ }
 {

@@ -10,14 +10,14 @@ use Prim.Native.Nat.{ℕ, _+_}
 use native.Mathlib.Omega.{arith}
 use lib.Dec.{leb}
 use lib.ListN.{length, take, drop}
-use lib.Seq.{length-take-le, take-all, drop-length}
+use lib.Seq.{length-take-le, take-all}
 use borrow.Author.Tests.{leb-true, le-leb, not-false}
 use Rattle.laws.proofs.Finite.{both-left, both-right}
 use Rattle.words.specs.declared.Answer.the-variants.{NoSymbology, NoMode, BadCount, FieldNotZero}
 use Rattle.rows.specs.Limits.{offered, holds}
 use Rattle.rows.specs.Symbologies.{symbologyOf}
 use Rattle.rows.specs.Rows.{gives, dataPlace, nonzero, unclean, drawnRow, rowOfField, rowOf}
-use Rattle.rows.proofs.Undo.{past-turned}
+use Rattle.rows.proofs.Undo.{past-turned, empty-rest}
 
 -- what a field that is drawn passed
 record Passed (s m count : ℕ) (field r : List ℕ) : Type 0 where
@@ -35,13 +35,9 @@ passed s m count field r e =
     let d = past-turned (unclean count field) (FieldNotZero (dataPlace (count + nonzero (drop count field)))) _ r (c .1) in
     record { known = a .0; offers = b .0; counted = c .0; row = d .1 }
 
--- nothing stands behind the data alone
-clean : (d : List ℕ) → unclean (length d) d ≡ false
-clean d = rw (drop-length d) refl
-
 alone : (s m : ℕ) (d r : List ℕ) → Passed s m (length d) d r → rowOf s m d ≡ gives r
 unfolding rowOf rowOfField
-alone s m d r p = rw (p .known, p .offers, p .counted, clean d) (p .row)
+alone s m d r p = rw (p .known, p .offers, p .counted, empty-rest d) (p .row)
 
 pub field-data : (s m count : ℕ) (field r : List ℕ) → rowOfField s m count field ≡ gives r → rowOf s m (take count field) ≡ gives r
 field-data s m count field r e =

@@ -2,6 +2,7 @@
 -- input is turned away with the number and place that document 01's table gives, in its order").
 --
 --   read-numbers, draw-numbers    the lists' numbers, in the document's words
+--   shown-picks                   10 and 11 as tests, one behind the other
 --   read-first, draw-first        the first that applies is the answer, and none is given otherwise
 --
 -- Assumes nothing.
@@ -60,7 +61,7 @@ module _ (f : Outcome → Answer) where
 
 -- ---- reading
 
-shown-picks : (s n : ℕ) (u : Reading) → shown s n u ≡ pick (stops u) (turned (NoSuchUnit (elementPlace (stopAt u)))) (rowFrom s n (λ i. getD (finds u) i 0))
+pub shown-picks : (s n : ℕ) (u : Reading) → shown s n u ≡ pick (stops u) (turned (NoSuchUnit (elementPlace (stopAt u)))) (rowFrom s n (λ i. getD (finds u) i 0))
 shown-picks s n (stopped i) = refl
 shown-picks s n (found cs) = refl
 

@@ -3,25 +3,23 @@
 --
 --   Draws          an accepted request draws a strip
 --   draw-whole, drawn-is                                     demand 2, drawing
---   read-exactly, read-whole, turned-never, turned-always    demand 2, reading
+--   read-exactly, read-whole, turned-always                  demand 2, reading (`read-exactly` for the reader: both directions in one)
 --   same-bytes, one-element, one-character                   demand 3
 --   draw-keeps, data-keeps, read-keeps                       demand 1
 --
 -- Assumes nothing.
 use mathlib.Core.Path.{_≡_, refl, sym, ap, _∙_}
 use mathlib.Core.Logic.{_≢_, _↔_}
-use mathlib.Core.Bool.{Bool, true, false, _||_, not}
+use mathlib.Core.Bool.{Bool, true, false}
 use mathlib.Core.List.{List, [], _∷_, _++_}
 use Prim.Native.Nat.{ℕ, zero, suc, _<_, _≤_}
 use native.Mathlib.Omega.{arith}
-use native.Mathlib.Decide.{ℕ-discrete}
 use lib.Dec.{eqb, ltb}
 use lib.ListN.{length, getD, take, drop, set, length-set}
 use lib.Seq.{take-at}
-use borrow.Author.Tests.{le-ltb, ne-eqb}
+use borrow.Author.Tests.{le-ltb}
 use Rattle.laws.specs.Search.{pick}
 use Rattle.laws.specs.Elements.{sum}
-use Rattle.laws.proofs.Finite.{upto, upto-at}
 use Rattle.laws.proofs.Spelling.{Below}
 use Rattle.laws.specs.Units.{Fits}
 use Rattle.laws.proofs.Elements.{dist-set}
@@ -30,9 +28,7 @@ use Rattle.words.specs.declared.Answer.{Answer}
 use Rattle.words.specs.declared.Answer.the-variants.{ShortForStrip, HandedBack}
 use Rattle.words.specs.Said.{saidOf}
 use Rattle.tables.specs.Alphabet.{size}
-use Rattle.rows.specs.Limits.{offered}
-use Rattle.rows.specs.Symbologies.{symbologies, symbologyOf}
-use Rattle.rows.proofs.Proper.{proper}
+use Rattle.rows.specs.Symbologies.{symbologyOf}
 use Rattle.rows.specs.Rows.{Outcome, gives, turned, drawable, rowOfField, rowOf, readRow, dataOfCount, dataOf}
 use Rattle.rows.specs.Held.{byteCount}
 use Rattle.rows.proofs.Undo.{undrawn, Reads, reads, undo}
@@ -40,15 +36,15 @@ use Rattle.rows.proofs.Catches.{replaced}
 use Rattle.units.specs.Plans.{planOf, unitsOf, stripOf}
 use Rattle.units.specs.Totals.{elementsOf}
 use Rattle.units.specs.Laid.{counted, ready, elementCount, moduleCount}
-use Rattle.units.proofs.Ready.{drawn-ready, ready-fits, ready-counted, ready-below, all-good}
+use Rattle.units.proofs.Ready.{ready-counted, below-allowed, ready-below, no-codabar, drawn-ready, ready-fits, all-good}
 use Rattle.units.proofs.Totals.{elements}
 use Rattle.reads.specs.Seen.{rowSeen}
 use Rattle.reads.specs.Held.{countFor}
 use Rattle.reads.proofs.Lengths.{same-count}
-use Rattle.reads.proofs.Choices.{below-allowed}
 use Rattle.reads.proofs.Shown.{Shown, shown-row}
 use Rattle.reads.proofs.Exact.{ready-seen, drawn-seen, seen-drawn}
 use Rattle.strip.specs.Drawing.{Call, refused, drawn, onto, drawField, drawData}
+use Rattle.strip.proofs.Fields.{field-data}
 use Rattle.strip.proofs.Honest.{field-honest}
 use Rattle.strip.specs.Reading.{readOn, dataSeen, handed, readStrip}
 
@@ -66,33 +62,33 @@ unfolding drawData drawField rowOf
 draw-whole s m d r out e l = rw (e, le-ltb (length out) (elementsOf s (length r)) l)
 
 -- a call that answers 0 drew an accepted request's strip
-record Accepted (s m : ℕ) (d out : List ℕ) : Type 0 where
+record Accepted (s m count : ℕ) (field out : List ℕ) : Type 0 where
   row : List ℕ
-  given : rowOf s m d ≡ gives row
-  whole : drawData s m d out ≡ drawn s row out
+  given : rowOf s m (take count field) ≡ gives row
+  whole : drawField s m count field out ≡ drawn s row out
 
 short-or : (b : Bool) (a : Answer) (c : Call) (out : List ℕ) → saidOf a .number ≢ 0 → saidOf (pick b (refused a out) c .answer) .number ≡ 0 → pick b (refused a out) c ≡ c
 short-or true a c out n e = absurd (n e)
 short-or false a c out n e = refl
 
-accepted-by : (s m : ℕ) (d out : List ℕ) → saidOf (drawData s m d out .answer) .number ≡ 0 → Accepted s m d out
-unfolding drawData drawField rowOf
-accepted-by s m d out = go (rowOfField s m (length d) d) refl
+accepted-by : (s m count : ℕ) (field out : List ℕ) → saidOf (drawField s m count field out .answer) .number ≡ 0 → Accepted s m count field out
+unfolding drawField
+accepted-by s m count field out = go (rowOfField s m count field) refl
   where
-    go : (z : Outcome) → rowOfField s m (length d) d ≡ z → saidOf (onto s z out .answer) .number ≡ 0 → Accepted s m d out
-    go (turned a) q e = absurd (field-honest s m (length d) d a q e)
+    go : (z : Outcome) → rowOfField s m count field ≡ z → saidOf (onto s z out .answer) .number ≡ 0 → Accepted s m count field out
+    go (turned a) q e = absurd (field-honest s m count field a q e)
     go (gives r) q e = record {
       row = r;
-      given = q;
+      given = field-data s m count field r q;
       whole = ap (λ (y : Outcome). onto s y out) q ∙ short-or (ltb (length out) (elementsOf s (length r))) (ShortForStrip (elementCount (elementsOf s (length r)))) (drawn s r out) out (omega arith) e;
     }
 
--- so its first elements are a strip that the data draw
-pub drawn-is : (s m : ℕ) (d out : List ℕ) → saidOf (drawData s m d out .answer) .number ≡ 0
-    → Draws s m d (take (saidOf (drawData s m d out .answer) .count) (drawData s m d out .buffer))
-drawn-is s m d out e =
-    let w : Accepted s m d out = accepted-by s m d out e in
-    let h : ready s (w .row) ≡ true = drawn-ready s m d (w .row) (w .given) in
+-- so its first elements are a strip that the field's data draw
+pub drawn-is : (s m count : ℕ) (field out : List ℕ) → saidOf (drawField s m count field out .answer) .number ≡ 0
+    → Draws s m (take count field) (take (saidOf (drawField s m count field out .answer) .count) (drawField s m count field out .buffer))
+drawn-is s m count field out e =
+    let w : Accepted s m count field out = accepted-by s m count field out e in
+    let h : ready s (w .row) ≡ true = drawn-ready s m (take count field) (w .row) (w .given) in
     record {
       row = w .row;
       accepted = w .given;
@@ -136,9 +132,6 @@ pub read-whole : (s m : ℕ) (d t out : List ℕ) → Draws s m d t → length d
 unfolding readStrip
 read-whole s m d t out w l = rw (read-back s m d t w, le-ltb (length out) (length d) l)
 
-pub turned-never : (s m : ℕ) (d t : List ℕ) (a : Answer) → dataSeen s m t ≡ turned a → Draws s m d t → ⊥
-turned-never s m d t a e w = let q : turned a ≡ gives d = sym e ∙ read-back s m d t w in let z : _≡_ {A = ℕ} 0 1 = cc in omega arith
-
 pub turned-always : (s m : ℕ) (t : List ℕ) → ((d : List ℕ) → Draws s m d t → ⊥) → (a : Answer) × (dataSeen s m t ≡ turned a)
 turned-always s m t n = go (dataSeen s m t) refl
   where
@@ -177,34 +170,15 @@ below-set n [] i v b h = tt
 below-set n (c ∷ cs) zero v b h = (h, b .1)
 below-set n (c ∷ cs) (suc i) v b h = (b .0, below-set n cs i v (b .1) h)
 
--- Codabar offers no check
-codabar-plain : upto 3 (λ m. eqb m 0 || not (offered (symbologyOf 3 .limits) m)) ≡ true
-unfolding symbologyOf symbologies
-codabar-plain = refl
-
-checked : (s m : ℕ) → offered (symbologyOf s .limits) m ≡ true → m ≢ 0 → eqb s 3 ≡ false
-checked s m o n = go (ℕ-discrete s 3)
-  where
-    none : (m : ℕ) → m < 3 → m ≢ 0 → offered (symbologyOf 3 .limits) m ≡ true → ⊥
-    none m h n e =
-        let t : (eqb m 0 || not (offered (symbologyOf 3 .limits) m)) ≡ true = upto-at 3 (λ m. eqb m 0 || not (offered (symbologyOf 3 .limits) m)) codabar-plain m h in
-        let f : false ≡ true = rw (ne-eqb m 0 n, e) at t in
-        let z : _≡_ {A = ℕ} 0 1 = cc in
-        omega arith
-
-    go : Dec (s ≡ 3) → eqb s 3 ≡ false
-    go (yes e) = absurd (none m (proper s .counts m o .mode) n (rw e at o))
-    go (no e) = ne-eqb s 3 e
-
 replaced-ready : (s m : ℕ) (d r : List ℕ) (i v : ℕ) → m ≢ 0 → rowOf s m d ≡ gives r → v < size (symbologyOf s .alphabet) → ready s (set r i v) ≡ true
 unfolding ready
 replaced-ready s m d r i v n e k =
     let a : Reads s m d r = reads s m d r (undo s m d r .0 e) in
-    let o : eqb s 3 ≡ false = checked s m (a .offers) n in
+    let o : eqb s 3 ≡ false = no-codabar s m (a .offers) n in
     let h : ready s r ≡ true = drawn-ready s m d r e in
     let c : counted s (length (set r i v)) ≡ true = rw (length-set r i v) (ready-counted s r h) in
     let b : Below (size (symbologyOf s .alphabet)) (set r i v) = below-set (size (symbologyOf s .alphabet)) r i v (ready-below s r o h) k in
-    rw (c, below-allowed s (set r i v) o b)
+    rw (c, below-allowed s o true (set r i v) b)
 
 replaced-seen : (s m : ℕ) (d r : List ℕ) (i v : ℕ) → m ≢ 0 → rowOf s m d ≡ gives r → v < size (symbologyOf s .alphabet)
     → rowSeen s m (stripOf s (set r i v)) ≡ gives (set r i v)

@@ -1,13 +1,13 @@
 -- Document 01, "Turned away: numbers and order": the checks as two flat lists, a line to a number. "The first that applies is the
 -- answer, and none is given otherwise."
 --
---   Check           a test, and the answer where it applies
+--   Check, check    a test, and the answer where it applies
 --   firstOf         the answer of the first check that applies, or the given one where none does
 --   stops, stopAt, finds    a reading: whether it stops, where, and what it found
---   unitsRead .. dataRead   reading: what the units show, the row, its items and its data
+--   unitsRead, rowsRead, rowRead, itemsRead, dataRead    reading: what the units are, what they show, the row, its items and its data
 --   readingChecks   "Reading checks 1, 2, 9, 10, 11, 12, 7, 8."
 --   handedAnswer    reading's answer of number 0
---   itemsDrawn, rowDrawn    drawing: the data's items and the row
+--   itemsDrawn, rowDrawn    drawing: the data's items and the row; badByte, 4's place
 --   drawingChecks   "Drawing checks 1, 2, 3, 13, 4, 5, 6, 7, 8 in that order."
 --   drawnAnswer     drawing's answer of number 0
 --
@@ -104,7 +104,7 @@ itemsDrawn s m d = spell (symbologyOf s .coder) true 0 (bodyOf m d)
 abbrev pub rowDrawn : ℕ → ℕ → List ℕ → List ℕ
 rowDrawn s m d = finds (itemsDrawn s m d) ++ ending (symbologyOf s) m d (finds (itemsDrawn s m d))
 
--- 4: the byte where the spelling stops, or in mode 1 the last
+-- where the spelling stops, or in mode 1 the last byte
 abbrev pub badByte : ℕ → ℕ → List ℕ → ℕ
 badByte s m d = pick (stops (itemsDrawn s m d)) (stopAt (itemsDrawn s m d)) (length d - 1)
 

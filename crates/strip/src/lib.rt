@@ -1,4 +1,5 @@
-// The library's calls: data to strip, and strip to data.
+// The library's calls: data to strip, and strip to data. What the customer demands of them, each sentence with its statement, is in
+// proofs/Demands.antt.
 //
 // `draw` draws data as a strip in a lent buffer, or turns them away with the first of 1, 2, 3, 4, 5, 6, 7, 8 that applies (document
 // 01, "Turned away: numbers and order"); `draw_field` does so for a job record's field, with 13 behind 3. Whatever is turned away

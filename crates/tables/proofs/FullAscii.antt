@@ -1,4 +1,7 @@
--- Document 01's ranges give the drawing codes that source 004 prints in 10.1.3, byte by byte from 20h to 7Fh.
+-- Document 01's ranges give the drawing codes that source 004 prints in 10.1.3.
+--
+--   drawn   byte by byte, from 20h to 7Fh
+--
 -- Assumes nothing.
 use mathlib.Core.Path.{_≡_, refl}
 use Prim.Native.Nat.{ℕ, _+_, _<_}

@@ -3,9 +3,9 @@
 --
 --   Uniform     a good set of n elements a row whose rows all have m modules
 --   uniform39             Code 39: 43 rows of nine elements, 15 modules
---   uniform-letter        Codabar's letters: 4 rows of seven elements, 13 modules
 --   uniform-matrix        10 rows of five elements, 9 modules
 --   good-inner            Codabar's inner characters: 16 rows of seven elements, of 11 or 13 modules
+--   uniform-letter        Codabar's letters: 4 rows of seven elements, 13 modules
 --   uniform-industrial    10 rows of nine elements, 13 modules
 --   uniform-interleaved   100 pairs of ten elements, 18 modules
 --   uniform-odd, uniform-right, uniform-left    EAN and UPC: 10, 10 and (EAN-13's left side) 20 rows of four elements, 7 modules

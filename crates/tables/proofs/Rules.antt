@@ -1,11 +1,12 @@
--- The rules of the tables, each one test that is computed over the whole table.
+-- The rules of the tables, each one test that is computed over the whole table. They are theorems for the reader, who holds the tables to
+-- the sources; only `three-wide` and `two-wide` are needed further on (Good.antt).
 --
 --   three-wide       Code 39: three wide elements in every one of the 44 codes
 --   two-wide         2 of 5: two wide elements in every digit
 --   two-classes      Codabar: two wide elements in digits, - and $, three in : / . + and in the letters
 --   four-and-seven   EAN and UPC: every pattern has four elements and seven modules
---   right-odd        the right set is the odd set with bars and spaces exchanged
---   even-odd         the even set is that, read from its other end
+--   turned, right-odd    bars and spaces exchanged: the right set is the odd set turned
+--   mirror, even-odd     read from the other end: the even set is the right set mirrored
 --   distinct-parities    no parities stand twice, so searches undo lookups
 --   found-own        nor do patterns: each is found in its own set at its own digit
 --
@@ -48,11 +49,10 @@ four-and-seven s d h k = (
 
 -- ---- the right set and the even set, computed from the odd set
 
--- a pattern with bars and spaces exchanged
 abbrev pub turned : ℕ → ℕ
 turned p = 127 - p
 
--- the n low bits of a pattern, from its other end
+-- of the n low bits
 abbrev pub mirror : ℕ → ℕ → ℕ
 mirror zero p = 0
 mirror (suc n) p = bit n p * 2 ^ (6 - n) + mirror n p

@@ -3,11 +3,12 @@
 --   bit       bit n of a code
 --   ones      how many of the n low bits are 1: in a two-width code, its wide elements
 --   spread    n bits as elements: 0 is narrow, 1 module, and 1 is wide, 3 modules (document 01, "Two-width strips")
---   runs      n bits as modules: 1 is a bar module, and equal neighbours are one element (document 01, "EAN and UPC strips")
+--   runs      n bits as modules: 1 is a bar module, and equal neighbours are one element (document 01, "EAN and UPC strips"); runsFrom,
+--             with k modules of one colour before them
 --   spaced    bars with a narrow space between each two (Industrial)
 --   weave     the first row in the bars, the second in the spaces (Interleaved)
 --   pairs     every row of one list woven with every row of another
---   number    bits as a number
+--   number    bits as a number; numberFrom, behind those of n
 use mathlib.Core.List.{List, [], _∷_, _++_, map}
 use Prim.Native.Nat.{ℕ, zero, suc, _+_, _*_, _/_, _%_, _^_}
 use lib.Dec.{eqb}
@@ -24,7 +25,6 @@ abbrev pub spread : ℕ → ℕ → List ℕ
 spread zero c = []
 spread (suc n) c = (1 + 2 * bit n c) ∷ spread n c
 
--- with k modules of colour b before them
 abbrev pub runsFrom : ℕ → ℕ → ℕ → ℕ → List ℕ
 runsFrom zero c b k = k ∷ []
 runsFrom (suc n) c b k =

@@ -1,10 +1,13 @@
 -- EAN-13, EAN-8 and UPC-A: source 001, table 5.2, of which tables 5.3 and 5.4 print a part. 1 is a bar module (document 01:
 -- "where 2.2 of source 001 says the reverse, the table decides").
 --
---   table52         a line to a digit: the parities of D2 to D7 where D1 is that digit, and its three patterns
+--   Line, line      a line of the table: parities as the letters O and E, and three patterns
+--   table52         a line to a digit: the parities of D2 to D7 where D1 is that digit, and its patterns left odd, left even, right
 --   patterns        the three sets of ten: left odd, left even, right, by set (0, 1, 2) and digit
---   parities        by D1: six bits, D2's the highest; 0 is odd and 1 is even, the number of the set
+--   even            the bit of a letter: 0 is odd and 1 is even, the number of the set
+--   parities        by D1: six bits, D2's the highest
 --   patternOf       the pattern of a set and a digit, 0 past the table
+--   among, setOf    whether one of ten patterns is p; the first set that has it, or 3
 --   foundPattern    the set of a pattern and its digit there; set 3 and digit 0 where no set has it
 --   paritiesOf      the parities of a first digit, 0 past 9
 --   firstDigit      the first digit of parities, 10 where none has them
@@ -57,7 +60,6 @@ parities = map (λ (l : Line). number (map even (l .parities))) table52
 unfoldable pub patternOf : ℕ → ℕ → ℕ
 patternOf set digit = getD (getD patterns set []) digit 0
 
--- whether one of ten patterns is p
 abbrev pub among : ℕ → List ℕ → Bool
 among p ten = ltb (indexIn ten p) 10
 

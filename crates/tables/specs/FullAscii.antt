@@ -1,6 +1,8 @@
 -- Full ASCII for symbology 2: source 004, 10.1.3, as document 01 words its drawing codes ("Full ASCII"), in its order.
 --
+--   Range     bytes from .. to .., and what each draws: `itself`, or shifted, a shift character and the letters from one on
 --   ranges    a line to a range of bytes
+--   within, drawnIn    whether a range holds a byte, and what the first that does draws
 --   drawing   the characters that are drawn for a byte: itself, or a shift character and a letter; none where it is refused
 --   printed   the same from 20h on, as the source prints it: a column to a line (proofs/FullAscii.antt: the two agree)
 use mathlib.Core.Bool.{Bool, _&&_}
@@ -16,11 +18,9 @@ pub record Range : Type 0 where
   pub to : ℕ
   pub drawn : ℕ → List ℕ
 
--- bytes that stand for themselves
 abbrev pub itself : Char → Char → Range
 itself a z = record { from = code a; to = code z; drawn = λ b. b ∷ [] }
 
--- bytes that are drawn as a shift character and the letters from one on
 abbrev pub shifted : ℕ → ℕ → Char → Char → Range
 shifted a z shift letter = record { from = a; to = z; drawn = λ b. code shift ∷ (code letter + (b - a)) ∷ [] }
 
@@ -45,7 +45,6 @@ ranges =
 abbrev pub within : Range → ℕ → Bool
 within r b = leb (r .from) b && leb b (r .to)
 
--- what the first range that holds the byte draws
 abbrev pub drawnIn : List Range → ℕ → List ℕ
 drawnIn [] b = []
 drawnIn (r ∷ rs) b = let rest = drawnIn rs b in pick (within r b) (r .drawn b) rest

@@ -2,8 +2,11 @@
 --
 --   table44           the five-bit codes; tables 4.4, 4.5 (bars and spaces alike) and 4.6 print the same ten
 --   alphabetDigits    the ten digits
---   industrialRows, interleavedRows, matrixRows    the digits (in Interleaved the hundred pairs) as elements
---   industrialStart .. matrixEnds                  the starts and stops, the lines ST and SP of the three tables
+--   digitRows         the five elements that carry a digit
+--   industrialRows    five bars carry the code, all spaces are narrow
+--   interleavedRows   the first digit in five bars, the second in the five spaces between and behind them: pair d, e is row 10 d + e
+--   matrixRows        five elements a digit
+--   industrialStart, industrialStop, interleavedStart, interleavedStop, matrixEnds    the lines ST and SP of the three tables
 use mathlib.Core.List.{List, [], _∷_, map}
 use Prim.Native.Nat.{ℕ}
 use Rattle.tables.specs.Bits.{spread, spaced, pairs}
@@ -27,19 +30,15 @@ table44 =
 unfoldable pub alphabetDigits : Alphabet
 alphabetDigits = record { chars = bytes table44; codes = numbers table44 }
 
--- the five elements that carry a digit
 unfoldable pub digitRows : List (List ℕ)
 digitRows = rowsOf 5 alphabetDigits
 
--- five bars carry the code, all spaces are narrow
 unfoldable pub industrialRows : List (List ℕ)
 industrialRows = map spaced digitRows
 
--- the first digit in five bars, the second in the five spaces between and behind them: pair d, e is row 10 d + e
 unfoldable pub interleavedRows : List (List ℕ)
 interleavedRows = pairs digitRows digitRows
 
--- five elements a digit
 unfoldable pub matrixRows : List (List ℕ)
 matrixRows = digitRows
 

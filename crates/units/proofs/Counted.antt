@@ -2,8 +2,10 @@
 -- fact is a test of 35 numbers.
 --
 --   counted-few       at most 34
---   Counts, counts1 ..    by symbology number: the counts up to 34, by one computed test each
---   counted-39 ..     by symbology: from .. to ..; in Interleaved an even number, in EAN and UPC just one
+--   Counts, counts1 to counts9    by symbology number: the counts up to 34, by one computed test each
+--   counted-39, counted-full, counted-codabar, counted-industrial, counted-interleaved, counted-matrix    by symbology: from .. to ..
+--   counted-even      in Interleaved an even number
+--   counted-ean13, counted-ean8, counted-upc    in EAN and UPC just one
 --   known             only the numbers 1 to 9 count anything
 --   by-number         so a fact of those nine is a fact of every such symbology
 --

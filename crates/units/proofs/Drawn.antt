@@ -1,6 +1,6 @@
 -- What `draw_row` answers and leaves in the lent buffer, at each of its returns.
 --
---   too-many      one of more holds nothing, and nothing is no row
+--   too-many      a row of more than 34 characters holds nothing, and nothing is no row
 --   not-ready     a row that is not ready; is-ready, is-counted, is-few, one that is
 --   too-short     a strip that is longer than the buffer
 --   laid          a strip, copied in front of what stood there

@@ -5,7 +5,9 @@
 --   below39, below-digits    each of its set
 --   Either39, either39    Code 39, plain or full ASCII: the two draw alike
 --   even-count    Interleaved: an even number
---   Lettered, lettered-row    Codabar: a letter, others, a letter
+--   pairs-within  each digit's row lies within the text
+--   not-end, at-start    which character is at an end
+--   Lettered, lettered-row    Codabar: a letter, others, a letter; long-codabar, letters-within, at least three, their rows within the text
 --   codabar-built, interleaved-built    the calls that put these two together
 --
 -- Assumes nothing.
@@ -105,11 +107,12 @@ pub record Lettered (front : List ℕ) (z : ℕ) : Type 0 where
   pub inner : Below 16 mid
   pub last : placed true z ≡ true
 
-not-end : (mid : List ℕ) (z : ℕ) → atEnd false (mid ++ (z ∷ [])) ≡ false
+-- what has a character behind it is not the last, and the first is at an end
+pub not-end : (mid : List ℕ) (z : ℕ) → atEnd false (mid ++ (z ∷ [])) ≡ false
 not-end [] z = refl
 not-end (c ∷ mid) z = refl
 
-at-start : (r : List ℕ) → atEnd true r ≡ true
+pub at-start : (r : List ℕ) → atEnd true r ≡ true
 at-start [] = refl
 at-start (c ∷ cs) = refl
 

@@ -18,7 +18,7 @@ use Rattle.laws.specs.Elements.{sum}
 use Rattle.laws.specs.Units.{Kind, fixed, free, rows, width, strip, Fits, All}
 use Rattle.laws.specs.Shapes.{Layout, many, shape}
 use Rattle.laws.proofs.Elements.{sum-append}
-use Rattle.laws.proofs.Shapes.{add-shape}
+use Rattle.laws.proofs.Shapes.{holds-many, holds-shape, add-shape}
 use Rattle.laws.proofs.Spelling.{Below}
 use Rattle.tables.proofs.Good.{Uniform}
 
@@ -54,11 +54,10 @@ steady-append (fixed r ∷ a) b g h = steady-append a b g h
 steady-append (free k ∷ a) b g h = (g .0, steady-append a b (g .1) h)
 
 pub steady-many : (n : ℕ) (group rest : List Kind) → Steady group → Steady rest → Steady (many n group rest)
-steady-many zero group rest g h = h
-steady-many (suc n) group rest g h = steady-append group (many n group rest) g (steady-many n group rest g h)
+steady-many = holds-many Steady steady-append
 
 pub steady-shape : (l : Layout) (n : ℕ) → Steady (l .head) → Steady (l .group) → Steady (l .tail) → Steady (shape l n)
-steady-shape l n a b c = steady-append (l .head) (many n (l .group) (l .tail)) a (steady-many n (l .group) (l .tail) b c)
+steady-shape = holds-shape Steady steady-append
 
 pub steady-good : (ks : List Kind) → Steady ks → All ks
 steady-good [] g = tt

@@ -1,10 +1,12 @@
 -- The strip of each symbology as the code puts it together: head, units, tail, each a stretch of the ready-made rows.
 --
---   row-of        a table's rows stand where they are cut, by one computed test
---   units-of      n times a group of one character: its rows one behind the other
---   pairs-of      n pairs
+--   row-test, row-of    a table's rows stand where they are cut, by one computed test
 --   within-below  the rows of characters of a set lie within the text
+--   Shows, units-of    a group that shows one character as elements of the text; n times: its rows one behind the other
+--   shows-parted, shows, shows-left, shows-odd    such groups: with a parting space, without, EAN's left sets
+--   ends39, endsIndustrial, endsMatrix    where start and stop stand
 --   between-ends, built    a start, the characters, a stop, and the call that puts them there
+--   pairs-of      n pairs
 --   strip39, stripIndustrial, stripMatrix, stripCodabar, stripInterleaved, two-halves    the strip of each symbology
 --
 -- Assumes nothing.

@@ -27,7 +27,6 @@ use lib.ListN.{length, getD, take, drop}
 use lib.Seq.{length-take-le, drop-cons, take-suc}
 use borrow.Author.Tests.{lt-ltb, le-ltb, le-leb, lt-leb, ne-eqb}
 use Rattle.laws.specs.Search.{pick}
-use Rattle.laws.specs.Spelling.{atEnd}
 use Rattle.laws.proofs.Finite.{from-at}
 use Rattle.laws.proofs.Arms.{Off}
 use Rattle.tables.specs.Alphabet.{size}
@@ -40,7 +39,7 @@ use Rattle.units.specs.Room.{inSteps, allIn}
 use Rattle.units.specs.Totals.{ofCodabar}
 use Rattle.units.proofs.Ready.{allowed-in}
 use Rattle.units.proofs.Counted.{counted-codabar, known, by-number, counts1, counts2, counts4, counts6}
-use Rattle.units.proofs.Given.{count}
+use Rattle.units.proofs.Given.{count, not-end, at-start}
 
 -- ---- a conjunction by its first test, which a call answered
 
@@ -149,17 +148,9 @@ module _ (low high : ℕ) (codes : List ℕ) (i to : ℕ) where
 
 -- ---- Codabar's letters
 
-inner : (cs : List ℕ) (z : ℕ) → atEnd false (cs ++ z ∷ []) ≡ false
-inner [] z = refl
-inner (c ∷ cs) z = refl
-
 ends : (cs : List ℕ) (z : ℕ) → allAllowed 3 false (cs ++ z ∷ []) ≡ (allIn 0 16 cs && allIn 16 20 (z ∷ []))
 ends [] z = refl
-ends (c ∷ cs) z = rw (inner cs z, ends cs z, le-leb 0 c (omega arith)) (sym (and-assoc (ltb c 16) (allIn 0 16 cs) (allIn 16 20 (z ∷ []))))
-
-start : (cs : List ℕ) → atEnd true cs ≡ true
-start [] = refl
-start (c ∷ cs) = refl
+ends (c ∷ cs) z = rw (not-end cs z, ends cs z, le-leb 0 c (omega arith)) (sym (and-assoc (ltb c 16) (allIn 0 16 cs) (allIn 16 20 (z ∷ []))))
 
 pub lettered-at : (codes : List ℕ) (n : ℕ) → 2 ≤ n → n ≤ length codes
     → allAllowed 3 true (take n codes)
@@ -171,7 +162,7 @@ lettered-at (c ∷ cs) (suc (suc m)) h l =
     let a : suc (suc m) - 1 ≡ suc m = omega arith in
     let b : suc m - 1 ≡ m = omega arith in
     let d : suc (suc m) - suc m ≡ 1 = omega arith in
-    rw (a, b, d, start (take (suc m) cs), take-suc cs m 0 (omega arith), ends, drop-cons cs m 0 (omega arith), and-true (leb 16 c && ltb c 20)) refl
+    rw (a, b, d, at-start (take (suc m) cs), take-suc cs m 0 (omega arith), ends, drop-cons cs m 0 (omega arith), and-true (leb 16 c && ltb c 20)) refl
 
 -- ---- a row in the first n places
 

@@ -1,18 +1,23 @@
 -- Rows that are ready: every row that is drawn is, and what is ready has a strip. A ready row has a count of its symbology's and
 -- characters of its set, so each free unit is shown a row that stands in its set.
 --
---   drawn-ready     a row that is drawn is ready
 --   ready-counted, ready-allowed, ready-below    what a ready row passed: its count, its characters, outside Codabar each of its set
---   allowed-in      outside Codabar a character is of its set, wherever it stands
+--   below-allowed, allowed-in    outside Codabar a character is of its set, wherever it stands
+--   no-codabar      Codabar offers no check
+--   drawn-ready     a row that is drawn is ready
 --   letter-high, letter-low    Codabar's letters have the values 16 to 19
+--   below-split     characters of one set, in two parts
+--   Sided, sided-is    EAN-13's twelve units, the first six of either left set
 --   ready-fits      the choices that a ready row makes fit the units of its strip
---   steady-39 ..    every free set of these strips is uniform: all but Codabar's inner one
+--   steady-39, steady-industrial, steady-interleaved, steady-matrix, steady-left, steady-odd    every free set of these strips is uniform
+--                   (all but Codabar's inner one)
 --   all-good        every free set of every strip is good
 --   few-elements, few    a strip has at most 339 elements
 --
 -- Assumes nothing.
 use mathlib.Core.Path.{_≡_, refl, sym, ap, _∙_}
-use mathlib.Core.Bool.{Bool, true, false, _&&_, _||_}
+use mathlib.Core.Logic.{_≢_}
+use mathlib.Core.Bool.{Bool, true, false, _||_}
 use mathlib.Core.List.{List, [], _∷_}
 use Prim.Native.Nat.{ℕ, zero, suc, _+_, _-_, _/_, _^_, _<_, _≤_}
 use native.Mathlib.Omega.{arith}
@@ -26,7 +31,7 @@ use Rattle.laws.specs.Search.{pick}
 use Rattle.laws.specs.Units.{Kind, fixed, free, Reading, found, stopped, push, Fits, All}
 use Rattle.laws.specs.Shapes.{many, shape}
 use Rattle.laws.specs.Spelling.{atEnd, byteFor, gave, unspell}
-use Rattle.laws.proofs.Finite.{both-left, both-right, each-at, From}
+use Rattle.laws.proofs.Finite.{both-left, both-right, both-true, each-at, From}
 use Rattle.laws.proofs.Shapes.{all-shape}
 use Rattle.laws.proofs.Spelling.{Below}
 use Rattle.tables.specs.Bits.{bit}
@@ -62,7 +67,7 @@ unfolding ready
 ready-allowed s r h = both-right (counted s (length r)) (allAllowed s true r) h
 
 module _ (s : ℕ) (n : eqb s 3 ≡ false) where
-  below-allowed : (start : Bool) (r : List ℕ) → Below (size (symbologyOf s .alphabet)) r → allAllowed s start r ≡ true
+  pub below-allowed : (start : Bool) (r : List ℕ) → Below (size (symbologyOf s .alphabet)) r → allAllowed s start r ≡ true
   below-allowed start [] b = refl
   below-allowed start (c ∷ cs) b = rw (n, lt-ltb c (size (symbologyOf s .alphabet)) (b .0)) (below-allowed false cs (b .1))
 
@@ -83,9 +88,6 @@ pub ready-below : (s : ℕ) (r : List ℕ) → eqb s 3 ≡ false → ready s r �
 ready-below s r n h = allowed-below s n true r (ready-allowed s r h)
 
 -- ---- a row that is drawn is ready
-
-both-true : (a b : Bool) → a ≡ true → b ≡ true → (a && b) ≡ true
-both-true a b p q = rw (p, q)
 
 or-left : (a b : Bool) → a ≡ true → (a || b) ≡ true
 or-left a b p = rw p
@@ -138,6 +140,13 @@ codabar-mode zero o = refl
 codabar-mode (suc zero) o = cc
 codabar-mode (suc (suc zero)) o = cc
 codabar-mode (suc (suc (suc m))) o = cc
+
+pub no-codabar : (s m : ℕ) → offered (symbologyOf s .limits) m ≡ true → m ≢ 0 → eqb s 3 ≡ false
+no-codabar s m o n = go (ℕ-discrete s 3)
+  where
+    go : Dec (s ≡ 3) → eqb s 3 ≡ false
+    go (yes e) = absurd (n (codabar-mode m (rw e at o)))
+    go (no e) = ne-eqb s 3 e
 
 codabar-allowed : (m : ℕ) (d r : List ℕ) → m ≡ 0 → Reads 3 m d r → allAllowed 3 true r ≡ true
 unfolding symbologyOf symbologies
@@ -221,10 +230,11 @@ fits-halves b k left cs w l p q =
     fits-many b (free left ∷ []) _ (λ c h. (omega arith, tt)) k cs (omega arith) p
     (rw e at (repeated 10 (free rightRows ∷ []) (fixed guard ∷ []) (λ c h. (h, tt)) tt (drop k cs) q))
 
-record Sided (k : ℕ) (cs : List ℕ) (n : ℕ) : Type 0 where
-  long : length cs ≡ n
-  left : Below 20 (take k cs)
-  right : Below 10 (drop k cs)
+-- n units, the first k of either left set
+pub record Sided (k : ℕ) (cs : List ℕ) (n : ℕ) : Type 0 where
+  pub long : length cs ≡ n
+  pub left : Below 20 (take k cs)
+  pub right : Below 10 (drop k cs)
 
 sides-are : (p k : ℕ) (cs : List ℕ) → k ≤ length cs → Below 10 cs → Sided k (sides p k cs) (length cs)
 sides-are p zero cs l b = record { long = refl; left = tt; right = b }
@@ -234,12 +244,15 @@ sides-are p (suc k) (c ∷ cs) l b =
     let two : bit k p < 2 = mod-lt (p / 2 ^ k) (lit< tt) in
     record { long = ap suc (t .long); left = (omega (arith, b .0), t .left); right = t .right }
 
+pub sided-is : (r : List ℕ) → length r ≡ 13 → Below 10 r → Sided 6 (sided r) 12
+sided-is [] l b = absurd (omega arith)
+sided-is (d ∷ cs) l b = let n : length cs ≡ 12 = omega arith in rw n at (sides-are (paritiesOf d) 6 cs (omega arith) (b .1))
+
 fits-ean13 : (r : List ℕ) → length r ≡ 13 → Below 10 r → Fits (shape (halves 6 leftRows) 6) (sided r)
 unfolding halves leftRows oddRows evenRows patterns table52
-fits-ean13 [] l b = absurd (omega arith)
-fits-ean13 (d ∷ cs) l b =
-    let t : Sided 6 (sided (d ∷ cs)) (length cs) = sides-are (paritiesOf d) 6 cs (omega arith) (b .1) in
-    fits-halves 20 6 leftRows (sided (d ∷ cs)) (omega arith) (omega (arith, t .long)) (t .left) (t .right)
+fits-ean13 r l b =
+    let t : Sided 6 (sided r) 12 = sided-is r l b in
+    fits-halves 20 6 leftRows (sided r) (omega arith) (t .long) (t .left) (t .right)
 
 fits-odd : (k : ℕ) (r : List ℕ) → length r ≡ k + k → Below 10 r → Fits (many k (free oddRows ∷ []) (fixed centre ∷ many k (free rightRows ∷ []) (fixed guard ∷ []))) r
 unfolding oddRows patterns table52

@@ -30,7 +30,7 @@ use Rattle.units.specs.Totals.{totals, elementsOf}
 use Rattle.units.specs.Laid.{ready}
 use Rattle.units.specs.Room.{sideAt, leftIn, rightIn, textEan}
 use Rattle.units.proofs.Counted.{counted-ean13, counted-ean8, counted-upc}
-use Rattle.units.proofs.Ready.{below-split}
+use Rattle.units.proofs.Ready.{below-split, Sided, sided-is}
 use Rattle.units.proofs.Putting.{more}
 use Rattle.units.proofs.Parts.{Shows, shows-left, shows-odd, two-halves}
 use Rattle.units.proofs.Given.{count, below-digits}
@@ -95,24 +95,6 @@ below-more : (cs : List ℕ) → Below 10 cs → Below 20 cs
 below-more [] b = tt
 below-more (c ∷ cs) b = (omega (arith, b .0), below-more cs (b .1))
 
-sides-left : (p k : ℕ) (cs : List ℕ) → Below 10 cs → Below 20 (take k (sides p k cs))
-sides-left p zero cs b = tt
-sides-left p (suc k) [] b = tt
-sides-left p (suc k) (c ∷ cs) b = let two : bit k p < 2 = mod-lt (p / 2 ^ k) (lit< tt) in (omega (arith, b .0), sides-left p k cs (b .1))
-
-sides-right : (p k : ℕ) (cs : List ℕ) → Below 10 cs → Below 10 (drop k (sides p k cs))
-sides-right p zero cs b = b
-sides-right p (suc k) [] b = tt
-sides-right p (suc k) (c ∷ cs) b = sides-right p k cs (b .1)
-
-sided-left : (r : List ℕ) → Below 10 r → Below 20 (take 6 (sided r))
-sided-left [] b = tt
-sided-left (d ∷ cs) b = sides-left (paritiesOf d) 6 cs (b .1)
-
-sided-right : (r : List ℕ) → Below 10 r → Below 10 (drop 6 (sided r))
-sided-right [] b = tt
-sided-right (d ∷ cs) b = sides-right (paritiesOf d) 6 cs (b .1)
-
 pub record Halves (s n half : ℕ) (r units : List ℕ) : Type 0 where
   pub left : Below 20 (take half units)
   pub right : Below 10 (take half (drop half units))
@@ -154,11 +136,11 @@ pub halves13 : (codes units : List ℕ) (n : ℕ) → n ≤ length codes → 12 
 unfolding stripOf unitsOf planOf plans elementsOf totals
 halves13 codes units n h l e q =
     let n13 : n ≡ 13 = counted-ean13 n (count 7 codes n h e) in
-    let b : Below 10 (take 13 codes) = digits13 codes n h e in
-    let f : Below 20 (take 6 units) = rw (← take-take 6 12 units (lit≤ tt), q) (sided-left (take 13 codes) b) in
+    let w : Sided 6 (sided (take 13 codes)) 12 = sided-is (take 13 codes) (length-take-le 13 codes (omega arith)) (digits13 codes n h e) in
+    let f : Below 20 (take 6 units) = rw (← take-take 6 12 units (lit≤ tt), q) (w .left) in
     let d : drop 6 (sided (take 13 codes)) ≡ take 6 (drop 6 units)
     = ap (drop 6) (sym q ∙ split units 6 l) ∙ drop-at (take 6 units) (take 6 (drop 6 units)) 6 (front-long units 6 l) in
-    let g : Below 10 (take 6 (drop 6 units)) = rw (← d) (sided-right (take 13 codes) b) in
+    let g : Below 10 (take 6 (drop 6 units)) = rw (← d) (w .right) in
     record {
       left = f;
       right = g;

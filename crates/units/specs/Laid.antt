@@ -1,9 +1,10 @@
 -- A row laid out into a lent buffer.
 --
 --   charsOf     the characters of a row as the code holds it; none where its number passes its places
---   counted     a mode that is offered gives so many drawn characters
---   allowed     a character where it stands: of its set, in Codabar a letter at the ends and another inside
+--   counts, counted    a mode, and some mode that is offered, gives so many drawn characters
+--   allowed     a character where it stands: of its set, in Codabar a letter at the ends and another inside; allAllowed, each of a row
 --   ready       a row of the symbology: its count and every character
+--   elementCount, moduleCount    a number as a count of elements, or of modules
 --   laidOf      what is answered: the number of elements and modules, or that the buffer is too short, or that it is no such row
 --   laidIn      the buffer afterwards: the strip and what stood behind it, or what stood there
 use mathlib.Core.Bool.{Bool, true, false, _&&_, _||_}

@@ -1,10 +1,15 @@
 -- The strip of each symbology (document 01, "Two-width strips", "EAN and UPC strips"): a symbology is data here too.
 --
 --   Plan        a layout, how often its group stands for n drawn characters, and which row each free unit shows
+--   itself      each character is its own row's number
 --   lettered    Codabar: the letters A to D, values 16 to 19, are counted from 0 at both ends
 --   paired      Interleaved: two digits a unit
+--   sides       the next k digits in the odd or the even set, by the k low bits of the parities, and then the others
 --   sided       EAN-13: the first digit is not drawn itself; it puts D2 to D7 into the odd or the even set
---   planOf      by number
+--   code39, codabar, industrial, interleaved, matrix, halves    the layouts
+--   each        the plan of one group a character; nothing, that of no symbology
+--   plans, planOf    by number
+--   unitsOf     the units of a strip of n drawn characters
 --   stripOf     the strip of a row: its elements' widths, bar first
 use mathlib.Core.Bool.{Bool, true, false}
 use mathlib.Core.List.{List, [], _∷_}
@@ -39,7 +44,6 @@ paired [] = []
 paired (a ∷ []) = []
 paired (a ∷ b ∷ cs) = (10 * a + b) ∷ paired cs
 
--- the next k digits, by the k low bits of the parities, and then the others
 abbrev pub sides : ℕ → ℕ → List ℕ → List ℕ
 sides p zero cs = cs
 sides p (suc k) [] = []
@@ -75,7 +79,6 @@ matrix = record { head = fixed matrixEnds ∷ gap ∷ []; group = free matrixRow
 unfoldable pub halves : ℕ → List (List ℕ) → Layout
 halves n left = record { head = fixed guard ∷ many n (free left ∷ []) (fixed centre ∷ []); group = free rightRows ∷ []; tail = fixed guard ∷ [] }
 
--- one group a character
 abbrev pub each : Layout → Plan
 each l = record { layout = l; repeats = λ n. n; choices = itself }
 
@@ -99,7 +102,6 @@ plans =
 unfoldable pub planOf : ℕ → Plan
 planOf s = getD plans s nothing
 
--- the units of a strip of n drawn characters
 unfoldable pub unitsOf : ℕ → ℕ → List Kind
 unitsOf s n = shape (planOf s .layout) (planOf s .repeats n)
 

@@ -2,15 +2,15 @@
 --
 --   digits      widths as the characters of their digits; `cut`, a stretch of such a text, as widths
 --   flat        rows one behind the other; `parted`, a row and its parting space
---   text39 ..   the ready-made rows of each symbology, from the tables of source 001
+--   text39, textCodabar, textIndustrial, textInterleaved, textMatrix, textEan    the ready-made rows, from the tables of source 001
 --   unitsIn     units of k elements one behind the other, each the row of its character
---   Within      each of those rows lies within the text
 --   partedIn    a start, units, a stop
+--   Within      each row of such units lies within the text
 --   pairsIn     pairs one behind the other, woven of their digits
---   inSteps     whether a count lies between two and is a multiple of a third
---   allIn       whether every value lies from one up to below another
 --   sideAt      the set of EAN-13's unit i
 --   leftIn, rightIn    a guard, half the units, the centre; the other half from the right set, a guard
+--   inSteps     whether a count lies between two and is a multiple of a third
+--   allIn       whether every value lies from one up to below another
 use mathlib.Core.Bool.{Bool, true, _&&_}
 use mathlib.Core.List.{List, [], _∷_, _++_, map}
 use Prim.Native.Nat.{ℕ, _+_, _*_, _-_, _%_, _≤_}

@@ -3,6 +3,7 @@
 --
 --   Total        both, for a row
 --   ofCodabar    12 for each digit, - or $, 14 for each other character
+--   by           both where they depend on the number of characters alone; totals, the table
 --   elementsOf   elements for n drawn characters
 --   modulesOf    modules of a row
 use mathlib.Core.List.{List, [], _∷_}

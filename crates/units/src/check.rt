@@ -81,6 +81,7 @@ fn size_of(symbology: u8) -> u8
     }
 }
 
+// Whether the first n codes are a row of the symbology.
 pub fn is_ready(symbology: u8, codes: [u8; 34], n: usize) -> bool
     requires { ⌜ n ≤ 34 ⌝ }
     ensures { λ r. ⌜ r ≡ ready symbology (take n codes) ⌝ }

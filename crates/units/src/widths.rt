@@ -1,5 +1,5 @@
 // The rows of each symbology ready to be copied: widths as digits, bar first, a unit with its parting space to a line. They are
-// held to the codes of source 001 by one computed test each (specs/Room.antt, proofs/Widths.antt).
+// held to the codes of source 001 by one computed test each (specs/Room.antt, proofs/widths/).
 ghost use mathlib.Core.Path.{_≡_};
 ghost use Rattle.units.specs.Room.{text39, textCodabar, textIndustrial, textInterleaved, textMatrix, textEan};
 

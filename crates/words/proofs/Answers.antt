@@ -1,7 +1,7 @@
 -- Every answer is done or a refusal, and "for all but 0 count and total are 0" (document 01).
 --
---   form      done with a count and a total, or a refusal of a number above 0 with a place
---   refusal   of a number that is not 0: count and total are 0
+--   Form, form    done with a count and a total, or a refusal of a number above 0 with a place
+--   refusal       of a number that is not 0: count and total are 0 (for the reader: it holds of every answer, so no call needs it)
 --
 -- Assumes nothing.
 use mathlib.Core.Path.{_≡_, refl, ap}

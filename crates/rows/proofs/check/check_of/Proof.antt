@@ -1,20 +1,30 @@
--- `check_of` gives the check: each arm of the match is a law of `Sums`.
+-- `check_of` gives the check off the sum that is held: each arm of the match is a law of `Sums`.
 -- Assumes nothing.
-use mathlib.Core.Path.{_≡_}
+use mathlib.Core.Path.{_≡_, _∙_}
 use mathlib.Core.Logic.{inl, inr}
 use native.Mathlib.Omega.{arith}
 use lib.ListN.{length}
 use lib.Seq.{length-take-le}
-use Rattle.rows.proofs.Sums.{small-start, checked43, checked10, unchecked, past}
+use Rattle.rows.proofs.Sums.{small-start, checked, by-43, by-10, unchecked, past}
 use borrow.Author.Needs.{needs}
 use Rattle.rows.proofs.check.check_of.Statement.{statement}
 use Rattle.rows.proofs.check.check_of.Tie as tie
 
-returns-2 : tie.Need-returns-2
-returns-2 c = let l = c .before .before .before .before in
+returns : tie.Need-returns
+returns c =
+    let l = c .before .before in
     let a = l .before .before .args in
     let long : length (a .row .codes) ≡ 34 = search needs in
-    rw (l .sum-of .ensures, l .before .start-of .ensures) (checked10 _ _ _ (length-take-le (a .n) (a .row .codes) (omega (arith, l .before .before .pre))) (c .before .if3 .left) (c .if4 .taken))
+    rw (l .sum-of .ensures, l .before .start-of .ensures)
+    (by-43 _ _ (c .before .if1 .left) (c .if2 .taken) ∙ checked _ _ _ (length-take-le (a .n) (a .row .codes) (omega (arith, l .before .before .pre))))
+
+returns-2 : tie.Need-returns-2
+returns-2 c =
+    let l = c .before .before .before .before in
+    let a = l .before .before .args in
+    let long : length (a .row .codes) ≡ 34 = search needs in
+    rw (l .sum-of .ensures, l .before .start-of .ensures)
+    (by-10 _ _ (c .before .if3 .left) (c .if4 .taken) ∙ checked _ _ _ (length-take-le (a .n) (a .row .codes) (omega (arith, l .before .before .pre))))
 
 pub check-of-spec : {M : Type 1} → statement M
 check-of-spec =
@@ -25,7 +35,7 @@ check-of-spec =
     (λ c. search needs)
     (λ c. search needs)
     (λ c. search needs)
-    (λ c. let l = c .before .before in rw (l .sum-of .ensures, l .before .start-of .ensures) (checked43 _ _ _ (c .before .if1 .left) (c .if2 .taken)))
+    returns
     returns-2
     (λ c. unchecked _ _ (inl (omega (arith, c .if1 .taken))))
     (λ c. unchecked _ _ (inr (omega (arith, c .if3 .taken, c .before .if2 .left))))

@@ -5,7 +5,6 @@ use borrow.Author.Needs.{needs}
 use Rattle.rows.specs.Symbologies.{symbologies, symbologyOf}
 use Rattle.rows.proofs.Coders.{alone39, alone-digits, alone-codabar}
 use Rattle.rows.proofs.Numbers.{others, alone-full}
-use borrow.Author.Needs.{needs}
 use Rattle.rows.proofs.coder.alone.Statement.{statement}
 use Rattle.rows.proofs.coder.alone.Tie as tie
 

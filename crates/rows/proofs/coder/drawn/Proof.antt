@@ -7,7 +7,6 @@ use Rattle.tables.specs.TwoOfFive.{table44, alphabetDigits}
 use Rattle.rows.specs.Coders.{plain, codabarCoder, fullCoder}
 use Rattle.rows.specs.Symbologies.{symbologies, symbologyOf}
 use Rattle.rows.proofs.Numbers.{others}
-use borrow.Author.Needs.{needs}
 use Rattle.rows.proofs.coder.drawn.Statement.{statement}
 use Rattle.rows.proofs.coder.drawn.Tie as tie
 

@@ -5,7 +5,6 @@ use mathlib.Core.Path.{_≡_, _∙_}
 use native.Mathlib.Omega.{arith}
 use borrow.Author.Needs.{needs}
 use Rattle.rows.proofs.Numbers.{shifting}
-use borrow.Author.Needs.{needs}
 use Rattle.rows.proofs.coder.pair.Statement.{statement}
 use Rattle.rows.proofs.coder.pair.Tie as tie
 

@@ -4,7 +4,6 @@ use mathlib.Core.Path.{_∙_}
 use borrow.Author.Needs.{needs}
 use Rattle.rows.specs.Symbologies.{symbologies, symbologyOf}
 use Rattle.rows.proofs.Numbers.{others}
-use borrow.Author.Needs.{needs}
 use Rattle.rows.proofs.coder.value_of.Statement.{statement}
 use Rattle.rows.proofs.coder.value_of.Tie as tie
 

@@ -13,7 +13,6 @@ use Rattle.rows.specs.Checks.{front}
 use Rattle.rows.proofs.Finish.{not-spelled, spelled-len, not-raw, finished-row}
 use Rattle.rows.proofs.Proper.{proper}
 use Rattle.rows.proofs.Numbers.{room-small}
-use borrow.Author.Needs.{needs}
 use Rattle.rows.proofs.drawing.checked_row.Statement.{statement}
 use Rattle.rows.proofs.drawing.checked_row.Tie as tie
 

@@ -3,7 +3,6 @@
 use native.Mathlib.Omega.{arith}
 use borrow.Author.Needs.{needs}
 use borrow.Author.Tests.{eq-eqb, ne-eqb}
-use borrow.Author.Needs.{needs}
 use Rattle.rows.proofs.drawing.drawn_count.Statement.{statement}
 use Rattle.rows.proofs.drawing.drawn_count.Tie as tie
 

@@ -4,7 +4,6 @@ use mathlib.Core.Path.{_≡_}
 use native.Mathlib.Omega.{arith}
 use borrow.Author.Needs.{needs}
 use lib.ListN.{length, List·getD-eq-default}
-use borrow.Author.Needs.{needs}
 use Rattle.rows.proofs.drawing.offers.Statement.{statement}
 use Rattle.rows.proofs.drawing.offers.Tie as tie
 

@@ -7,7 +7,6 @@ use Rattle.rows.specs.Symbologies.{symbologyOf}
 use Rattle.rows.proofs.Finish.{not-spelled, spelled-len, finished-row}
 use Rattle.rows.proofs.Proper.{proper}
 use Rattle.rows.proofs.Numbers.{room-small}
-use borrow.Author.Needs.{needs}
 use Rattle.rows.proofs.drawing.spelled_row.Statement.{statement}
 use Rattle.rows.proofs.drawing.spelled_row.Tie as tie
 

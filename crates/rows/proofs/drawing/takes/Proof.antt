@@ -2,7 +2,6 @@
 -- Assumes nothing.
 use borrow.Author.Needs.{needs}
 use borrow.Author.Tests.{le-leb, lt-leb}
-use borrow.Author.Needs.{needs}
 use Rattle.rows.proofs.drawing.takes.Statement.{statement}
 use Rattle.rows.proofs.drawing.takes.Tie as tie
 

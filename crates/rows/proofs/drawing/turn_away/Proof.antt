@@ -1,7 +1,6 @@
 -- `turn_away`: the answer, and an empty row.
 -- Assumes nothing.
 use borrow.Author.Needs.{needs}
-use borrow.Author.Needs.{needs}
 use Rattle.rows.proofs.drawing.turn_away.Statement.{statement}
 use Rattle.rows.proofs.drawing.turn_away.Tie as tie
 

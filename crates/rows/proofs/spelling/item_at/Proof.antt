@@ -8,7 +8,6 @@ use native.Mathlib.Omega.{arith}
 use borrow.Author.Needs.{needs}
 use lib.ListN.{length}
 use Rattle.rows.proofs.Loops.{item-two, item-one}
-use borrow.Author.Needs.{needs}
 use Rattle.rows.proofs.spelling.item_at.Statement.{statement}
 use Rattle.rows.proofs.spelling.item_at.Tie as tie
 

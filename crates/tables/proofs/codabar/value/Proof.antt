@@ -9,7 +9,6 @@ use Rattle.laws.specs.Search.{indexIn}
 use Rattle.laws.proofs.Arms.{agree}
 use Rattle.tables.specs.Alphabet.{valueOf}
 use Rattle.tables.specs.Codabar.{alphabetCodabar, table41}
-use borrow.Author.Needs.{needs}
 use Rattle.tables.proofs.codabar.value.Statement.{statement}
 use Rattle.tables.proofs.codabar.value.Tie as tie
 

@@ -8,7 +8,6 @@ use lib.ListN.{List·getD-eq-default}
 use Rattle.laws.proofs.Finite.{line}
 use Rattle.tables.specs.Alphabet.{byteOf}
 use Rattle.tables.specs.TwoOfFive.{alphabetDigits, table44}
-use borrow.Author.Needs.{needs}
 use Rattle.tables.proofs.two_of_five.byte.Statement.{statement}
 use Rattle.tables.proofs.two_of_five.byte.Tie as tie
 
