@@ -10,6 +10,7 @@ pub mod Only
 pub mod Packing
 pub mod Pieces
 pub mod Seeing
+pub mod Seeking
 pub mod Shown
 pub mod Walking
 pub mod Weaving

@@ -30,9 +30,8 @@ use Rattle.laws.proofs.Elements.{find-hit}
 use Rattle.tables.specs.declared.ean.SetDigit.{SetDigit}
 use Rattle.tables.specs.Ean.{table52, patterns, among, setOf, foundPattern, oddRows, evenRows, leftRows, rightRows}
 use Rattle.tables.proofs.Patterns.{three}
-use Rattle.reads.specs.declared.search.Found.the-variants.{Character, NoRow}
 use Rattle.reads.specs.Seen.{elementPlace}
-use Rattle.reads.specs.Held.{inFour, seven, patternSeen, foundRow, unitAt}
+use Rattle.reads.specs.Held.{inFour, seven, patternSeen, Character, NoRow, foundRow, unitAt, patternAt}
 use Rattle.reads.proofs.Packing.{strided-take}
 
 -- ---- answers
@@ -158,9 +157,6 @@ module _ (rows : List (List ℕ)) (each : each-seven rows ≡ true) (row : List 
 four-of : (t : List ℕ) (at : ℕ) → at + 4 ≤ length t
     → take 4 (drop at t) ≡ getD t at 0 ∷ getD t (at + 1) 0 ∷ getD t (at + 2) 0 ∷ getD t (at + 3) 0 ∷ []
 four-of t at h = rw (add-zero at) at (sym (strided-take t at 4 h))
-
-abbrev patternAt : List ℕ → ℕ → ℕ
-patternAt t at = patternSeen (getD t at 0) (getD t (at + 1) 0) (getD t (at + 2) 0) (getD t (at + 3) 0)
 
 -- rows that are the sets from `lo` to before `hi`, digit by digit; `turn` makes the pattern of their elements one of table 5.2
 pub record Units (rows : List (List ℕ)) (lo hi : ℕ) (turn : ℕ → ℕ) : Type 0 where

@@ -2,6 +2,7 @@
 -- since behind the start the shapes repeat one group. The strips of EAN and UPC have one length, and there each unit is compared.
 --
 --   past-nine     a number from 3 on that has none of the arms for 3 to 9 is 10 or more
+--   each-parted, each-paired, each-halved    what is so of a start, a character, a stop .. is so of each unit of a shape
 --   unit-some     a unit has at least one element
 --   fixed-small   a fixed pattern has at most nine, and its code as many bits
 --   unit-length   the units of a shape are as many as `unitCount` says
@@ -33,7 +34,7 @@ use Rattle.units.specs.Plans.{code39, codabar, industrial, interleaved, matrix,
 use Rattle.units.specs.Laid.{counted}
 use Rattle.units.proofs.Counted.{by-number}
 use Rattle.reads.specs.declared.kinds.Unit.{Unit}
-use Rattle.reads.specs.declared.kinds.Unit.the-variants.{Fixed, Char39, Letter, Inner, Industrial, Pair, Matrix, Odd, Left}
+use Rattle.reads.specs.declared.kinds.Unit.the-variants.{Fixed, Char39, Letter, Inner, Industrial, Pair, Matrix, Odd, Left, Right}
 use Rattle.reads.specs.Held.{kindOf, partedUnit, pairedUnit, halvedUnit, unitsBy, unitOf, unitCounts, unitCount}
 use Rattle.reads.proofs.Widths.{sizeOf, widthOf}
 
@@ -47,6 +48,23 @@ past-nine s h o = go (decLt s 10)
         omega arith
     go (no l) = omega arith
 
+-- ---- what is so of each unit of a shape
+
+module _ (P : Unit → Type 0) where
+  either : (b : Bool) (u v : Unit) → P u → P v → P (pick b u v)
+  either true u v p q = p
+  either false u v p q = q
+
+  pub each-parted : (a c z : Unit) → P a → P c → P z → P (Fixed 1 0) → (units left : ℕ) → P (partedUnit a c z units left)
+  each-parted a c z p q r g units left = either (eqb left units) a _ p (either (eqb left 1) z _ r (either (eqb (left % 2) (units % 2)) c _ q g))
+
+  pub each-paired : P (Fixed 4 0) → P (Fixed 3 4) → P Pair → (units left : ℕ) → P (pairedUnit units left)
+  each-paired p r q units left = either (eqb left units) _ _ p (either (eqb left 1) _ _ r q)
+
+  pub each-halved : (half : Unit) → P (Fixed 3 0) → P (Fixed 5 0) → P half → P Right → (units left : ℕ) → P (halvedUnit half units left)
+  each-halved half p m h r units left =
+      either (eqb left units) _ _ p (either (eqb left 1) _ _ p (either (eqb left (units / 2 + 1)) _ _ m (either (ltb (units / 2 + 1) left) half _ h r)))
+
 -- ---- the fixed patterns
 
 abbrev small : Unit → Bool
@@ -55,38 +73,26 @@ small u = leb (sizeOf u .1) 9 && ltb (sizeOf u .2) (2 ^ sizeOf u .1)
 abbrev tight : Unit → Bool
 tight u = ltb 0 (widthOf u) && small u
 
-abbrev Tight : (ℕ → ℕ → Unit) → Type 0
-Tight f = (units left : ℕ) → tight (f units left) ≡ true
+abbrev Tight : Unit → Type 0
+Tight u = tight u ≡ true
 
-either : (b : Bool) (u v : Unit) → tight u ≡ true → tight v ≡ true → tight (pick b u v) ≡ true
-either true u v p q = p
-either false u v p q = q
-
-tight-parted : (a c z : Unit) → tight a ≡ true → tight c ≡ true → tight z ≡ true → Tight (partedUnit a c z)
-tight-parted a c z p q r units left = either (eqb left units) a _ p (either (eqb left 1) z _ r (either (eqb (left % 2) (units % 2)) c _ q refl))
-
-tight-paired : Tight pairedUnit
-tight-paired units left = either (eqb left units) _ _ refl (either (eqb left 1) _ _ refl refl)
-
-tight-halved : (half : Unit) → tight half ≡ true → Tight (halvedUnit half)
-tight-halved half p units left =
-    either (eqb left units) _ _ refl
-    (either (eqb left 1) _ _ refl (either (eqb left (units / 2 + 1)) _ _ refl (either (ltb (units / 2 + 1) left) half _ p refl)))
-
-tight-unit : (s : ℕ) → Tight (unitOf s)
+tight-unit : (s units left : ℕ) → Tight (unitOf s units left)
 unfolding unitOf unitsBy
 tight-unit =
-    each-at Tight unitsBy (halvedUnit Odd) (
-      tight-halved Odd refl,
+    each-at (λ f. (units left : ℕ) → Tight (f units left)) unitsBy (halvedUnit Odd) (
+      each-halved Tight Odd refl refl refl refl,
       (
-        tight-parted _ _ _ refl refl refl,
+        each-parted Tight _ _ _ refl refl refl refl,
         (
-          tight-parted _ _ _ refl refl refl,
-          (tight-parted _ _ _ refl refl refl, (tight-parted _ _ _ refl refl refl, (tight-paired, (tight-parted _ _ _ refl refl refl, (tight-halved Left refl, tt))))),
+          each-parted Tight _ _ _ refl refl refl refl,
+          (
+            each-parted Tight _ _ _ refl refl refl refl,
+            (each-parted Tight _ _ _ refl refl refl refl, (each-paired Tight refl refl refl, (each-parted Tight _ _ _ refl refl refl refl, (each-halved Tight Left refl refl refl refl, tt)))),
+          ),
         ),
       ),
     )
-    (tight-halved Odd refl)
+    (each-halved Tight Odd refl refl refl refl)
 
 pub unit-some : (s units left : ℕ) → 0 < widthOf (unitOf s units left)
 unit-some s units left = let u : Unit = unitOf s units left in ltb-true 0 (widthOf u) (both-left (ltb 0 (widthOf u)) (small u) (tight-unit s units left))

@@ -37,9 +37,8 @@ use Rattle.laws.proofs.Finite.{both-left, both-right}
 use Rattle.laws.proofs.Elements.{alike-true, alike-self, find-hit}
 use Rattle.tables.specs.Bits.{bit, spread, number, numberFrom}
 use Rattle.tables.specs.Alphabet.{Alphabet, size, foundOf, rowsOf}
-use Rattle.reads.specs.declared.search.Found.the-variants.{Character, Passed, NoRow}
 use Rattle.reads.specs.Seen.{elementPlace}
-use Rattle.reads.specs.Held.{bitOf, strided, codeOf, unitAt}
+use Rattle.reads.specs.Held.{bitOf, strided, codeOf, Character, Passed, NoRow, unitAt}
 
 -- ---- one element
 

@@ -31,11 +31,10 @@ use Rattle.units.specs.Laid.{counted}
 use Rattle.units.proofs.Counted.{counted-few, known}
 use Rattle.reads.specs.declared.kinds.Unit.{Unit}
 use Rattle.reads.specs.declared.kinds.Unit.the-variants.{Fixed, Char39, Letter, Inner, Industrial, Pair, Matrix, Odd, Left, Right}
-use Rattle.reads.specs.declared.search.Found.the-variants.{NoRow}
 use Rattle.reads.specs.declared.gather.Gathered.{Gathered}
 use Rattle.reads.specs.declared.walk.Walked.{Walked}
 use Rattle.reads.specs.Seen.{elementPlace}
-use Rattle.reads.specs.Held.{kindOf, unitOf, unitCount, stood, unitAt, noneSeen, takenOf, stop, onward, walkFrom}
+use Rattle.reads.specs.Held.{kindOf, unitOf, unitCount, NoRow, stood, unitAt, noneSeen, takenOf, stop, onward, walkFrom}
 use Rattle.reads.proofs.Gathering.{Gathers, none-gathers, taken-gathers}
 use Rattle.reads.proofs.Numbered.{unit-length, unit-kind}
 

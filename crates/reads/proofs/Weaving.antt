@@ -36,9 +36,8 @@ use Rattle.tables.specs.Code39.{table42, chars39, alphabet39, rows39}
 use Rattle.tables.specs.Codabar.{table41, alphabetCodabar, innerRows, letterRows}
 use Rattle.tables.specs.TwoOfFive.{table44, alphabetDigits, digitRows, industrialRows, interleavedRows, matrixRows}
 use Rattle.reads.specs.declared.kinds.Unit.the-variants.{Industrial, Pair}
-use Rattle.reads.specs.declared.search.Found.the-variants.{Character, NoRow}
 use Rattle.reads.specs.Seen.{elementPlace}
-use Rattle.reads.specs.Held.{strided, codeOf, unitAt}
+use Rattle.reads.specs.Held.{strided, codeOf, Character, NoRow, unitAt}
 use Rattle.reads.proofs.Packing.{alike-spread, strided-take, stretch-long, below, found-rows, unit-row, unit-none}
 use Rattle.reads.proofs.Widths.{wide}
 

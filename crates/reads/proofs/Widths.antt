@@ -3,7 +3,8 @@
 --   sizeOf    a unit's elements, written out, and the elements and the code of its one pattern, 0 and 0 where it has a set
 --   widthOf   its elements; wide, they are the width of what it may be
 --   long      each row of a unit has so many
---   inside    a unit that reaches no further than the strip, as the searches ask for it
+--   inside    a unit that reaches no further than the strip, as each arm of `sought_at` asks for it
+--   sought-past, sought-there    what is sought at a unit that reaches past the strip's end, and at one that does not
 --   outside   a unit that reaches past the strip's end is in no row
 --
 -- Assumes nothing.
@@ -24,8 +25,8 @@ use Rattle.tables.specs.Ean.{table52, patterns, oddRows, evenRows, leftRows, ri
 use Rattle.tables.proofs.Good.{uniform39, good-inner, uniform-letter, uniform-industrial, uniform-interleaved, uniform-matrix, uniform-odd, uniform-left, uniform-right}
 use Rattle.reads.specs.declared.kinds.Unit.{Unit}
 use Rattle.reads.specs.declared.kinds.Unit.the-variants.{Fixed, Char39, Letter, Inner, Industrial, Pair, Matrix, Odd, Left, Right}
-use Rattle.reads.specs.declared.search.Found.the-variants.{NoRow}
-use Rattle.reads.specs.Held.{kindOf, unitAt}
+use Rattle.reads.specs.declared.search.Sought.{Sought}
+use Rattle.reads.specs.Held.{NoRow, kindOf, unitAt, nowhere, soughtIn, soughtOf}
 use Rattle.reads.proofs.Modules.{said, denied}
 use Rattle.reads.proofs.Packing.{length-spread, unit-none}
 
@@ -74,10 +75,19 @@ long Right i h = uniform-right .good .long i h
 pub inside : (at w n : ℕ) {r : Bool} {u v : Unit} → r ≡ leb (at + w) n → not r ≡ false → w ≡ width (kindOf u) → u ≡ v → at + widthOf v ≤ n
 inside at w n {r} {u} e h f q = rw (← q) (omega (arith, wide u, leb-true (at + w) n (said r _ e h)))
 
-pub outside : (u : Unit) (t : List ℕ) (at w : ℕ) (r : Bool) → r ≡ leb (at + w) (length t) → not r ≡ true → w ≡ width (kindOf u) → 0 < widthOf u
-    → NoRow ≡ unitAt (kindOf u) t at
-outside u t at w r e h f z =
+pub sought-past : (t : List ℕ) (at w : ℕ) {r : Bool} {u v : Unit} {q : Sought} → r ≡ leb (at + w) (length t) → not r ≡ true → w ≡ width (kindOf u) → u ≡ v
+    → q ≡ nowhere → q ≡ soughtOf v t at
+unfolding soughtOf
+sought-past t at w {r} {u} {v} e h f g z = rw (z, ← g, ← f, denied r (leb (at + w) (length t)) e h)
+
+pub sought-there : (t : List ℕ) (at w : ℕ) {r : Bool} {u v x : Unit} {q : Sought} → r ≡ leb (at + w) (length t) → not r ≡ false → w ≡ width (kindOf u) → u ≡ v
+    → u ≡ x → q ≡ soughtIn x t at → q ≡ soughtOf v t at
+unfolding soughtOf
+sought-there t at w {r} {u} {v} {x} e h f g i z = rw (z, ← g, ← f, said r (leb (at + w) (length t)) e h, i)
+
+pub outside : (u : Unit) (t : List ℕ) (at : ℕ) → leb (at + width (kindOf u)) (length t) ≡ false → 0 < widthOf u → NoRow ≡ unitAt (kindOf u) t at
+outside u t at e z =
     let n : ℕ = widthOf u in
-    let past : length t < at + n = omega (arith, wide u, leb-false (at + w) (length t) (denied r _ e h)) in
+    let past : length t < at + n = omega (arith, wide u, leb-false (at + width (kindOf u)) (length t) e) in
     let short : length (take n (drop at t)) < n = simp (length-take, length-drop) (omega arith) in
     unit-none n t at (kindOf u) (wide u) refl (λ c l g. omega (arith, long u c l, ap length g))

@@ -6,12 +6,16 @@
 --   kindOf         what a unit may be
 --   unitOf         which unit stands where so many of so many are left
 --   unitAt         the unit that stands at a place
+--   soughtOf       what the code looks for there: a code, among some rows of a table
+--   isRow, numberOf, rowBy, foundBy    whether the row at an index is the one sought, and its number; the first of n rows that is; what
+--                  stands there, by that search
+--   codesFor       the codes of a symbology's rows
 --   wordsIn, ofWords              rows gathered in words of eight
 --   noneSeen, takenOf, valueAt    none of them; one more; the one at an index
---   walkFrom       the units left, read from a place on
+--   walkFrom       the units left, read from a place on; walkBy, the same by the search over lent tables
 --   countFor       the count for which document 01's formula gives a length, whatever the mode; 0 where there is none
 --   unitCount      how many units a strip of n characters has
-use mathlib.Core.Bool.{Bool, _&&_}
+use mathlib.Core.Bool.{Bool, true, false, _&&_}
 use mathlib.Core.List.{List, [], _∷_, map}
 use Prim.Native.Nat.{ℕ, zero, suc, _+_, _*_, _-_, _/_, _%_, _^_}
 use lib.Dec.{eqb, ltb, leb}
@@ -20,15 +24,15 @@ use Rattle.laws.specs.Search.{pick}
 use Rattle.laws.specs.Elements.{find}
 use Rattle.laws.specs.Units.{Kind, fixed, free, rows, width}
 use Rattle.words.specs.declared.ElementPlace.{ElementPlace}
-use Rattle.tables.specs.Bits.{spread, number}
-use Rattle.tables.specs.Code39.{rows39}
-use Rattle.tables.specs.Codabar.{innerRows, letterRows}
-use Rattle.tables.specs.TwoOfFive.{industrialRows, interleavedRows, matrixRows}
-use Rattle.tables.specs.Ean.{oddRows, leftRows, rightRows}
+use Rattle.tables.specs.Bits.{bit, spread, number}
+use Rattle.tables.specs.Alphabet.{Alphabet, foundOf}
+use Rattle.tables.specs.Code39.{alphabet39, rows39}
+use Rattle.tables.specs.Codabar.{alphabetCodabar, innerRows, letterRows}
+use Rattle.tables.specs.TwoOfFive.{alphabetDigits, industrialRows, interleavedRows, matrixRows}
+use Rattle.tables.specs.Ean.{patterns, oddRows, leftRows, rightRows}
 use Rattle.reads.specs.declared.kinds.Unit.{Unit}
 use Rattle.reads.specs.declared.kinds.Unit.the-variants.{Fixed, Char39, Letter, Inner, Industrial, Pair, Matrix, Odd, Left, Right}
-use Rattle.reads.specs.declared.search.Found.{Found}
-use Rattle.reads.specs.declared.search.Found.the-variants.{Character, Passed, NoRow}
+use Rattle.reads.specs.declared.search.Sought.{Sought}
 use Rattle.reads.specs.declared.gather.Gathered.{Gathered}
 use Rattle.reads.specs.declared.walk.Walked.{Walked}
 use Rattle.reads.specs.Seen.{elementPlace}
@@ -103,6 +107,13 @@ unitsBy =
 unfoldable pub unitOf : ℕ → ℕ → ℕ → Unit
 unitOf s units left = getD unitsBy s (halvedUnit Odd) units left
 
+-- what stands at a place, and the place behind it: a row of a set, by its number there; the one pattern that may stand there; a unit
+-- that is in no row
+pub data Found : Type 0 where
+  Character : ℕ → ElementPlace → Found
+  Passed : ElementPlace → Found
+  NoRow : Found
+
 abbrev pub stood : Kind → ℕ → ElementPlace → Found
 stood (fixed r) c next = Passed next
 stood (free k) c next = Character c next
@@ -112,6 +123,83 @@ foundRow k c at = pick (ltb c (length (rows k))) (stood k c (elementPlace (at + 
 
 unfoldable pub unitAt : Kind → List ℕ → ℕ → Found
 unitAt k t at = foundRow k (find (rows k) (take (width k) (drop at t))) at
+
+-- ---- rows sought
+
+abbrev pub seek : ℕ → Bool → ℕ → ℕ → ℕ → ℕ → Sought
+seek code sets first past up next = record { code = code; sets = sets; first = first; past = past; up = up; passed = false; next = elementPlace next }
+
+abbrev pub nowhere : Sought
+nowhere = seek 0 false 0 0 0 0
+
+abbrev pub passedAt : ℕ → Sought
+passedAt next = record { code = 0; sets = false; first = 0; past = 0; up = 0; passed = true; next = elementPlace next }
+
+-- the four spaces of a code of nine elements, and the rows of Code 39 that have such spaces
+abbrev pub spacesIn : ℕ → ℕ
+spacesIn code = bit 7 code * 8 + bit 5 code * 4 + bit 3 code * 2 + bit 1 code
+
+abbrev pub firstBy : ℕ → ℕ
+firstBy spaces = pick (eqb spaces 4) 0 (pick (eqb spaces 2) 10 (pick (eqb spaces 1) 20 (pick (eqb spaces 8) 30 39)))
+
+abbrev pub pastBy : ℕ → ℕ
+pastBy spaces = pick (eqb spaces 4) 10 (pick (eqb spaces 2) 20 (pick (eqb spaces 1) 30 (pick (eqb spaces 8) 39 43)))
+
+abbrev pub seek39 : ℕ → ℕ → Sought
+seek39 code next = seek code false (firstBy (spacesIn code)) (pastBy (spacesIn code)) 0 next
+
+abbrev pub seekPair : ℕ → ℕ → ℕ → Sought
+seekPair digit code next = pick (ltb digit 10) (seek code false 0 10 (10 * digit) next) nowhere
+
+abbrev pub patternAt : List ℕ → ℕ → ℕ
+patternAt t at = patternSeen (getD t at 0) (getD t (at + 1) 0) (getD t (at + 2) 0) (getD t (at + 3) 0)
+
+-- at a unit that does not reach past the strip's end
+unfoldable pub soughtIn : Unit → List ℕ → ℕ → Sought
+soughtIn (Fixed k c) t at = pick (eqb (codeOf (strided t at 1 0 k)) c) (passedAt (at + k)) nowhere
+soughtIn Char39 t at = seek39 (codeOf (strided t at 1 0 9)) (at + 9)
+soughtIn Letter t at = seek (codeOf (strided t at 1 0 7)) false 16 20 240 (at + 7)
+soughtIn Inner t at = seek (codeOf (strided t at 1 0 7)) false 0 16 0 (at + 7)
+soughtIn Industrial t at =
+    pick (eqb (codeOf (strided t (at + 1) 2 0 4)) 0) (seek (codeOf (strided t at 2 0 5)) false 0 10 0 (at + 9)) nowhere
+soughtIn Pair t at =
+    seekPair (foundOf alphabetDigits (codeOf (strided t at 2 0 5))) (codeOf (strided t (at + 1) 2 0 5)) (at + 10)
+soughtIn Matrix t at = seek (codeOf (strided t at 1 0 5)) false 0 10 0 (at + 5)
+soughtIn Odd t at = seek (patternAt t at) true 0 10 0 (at + 4)
+soughtIn Left t at = seek (patternAt t at) true 0 20 0 (at + 4)
+soughtIn Right t at = seek (127 - patternAt t at) true 20 30 236 (at + 4)
+
+unfoldable pub soughtOf : Unit → List ℕ → ℕ → Sought
+soughtOf u t at = pick (leb (at + width (kindOf u)) (length t)) (soughtIn u t at) nowhere
+
+abbrev pub inCodes : List ℕ → ℕ → ℕ → Bool
+inCodes codes i code = ltb i (length codes) && eqb (getD codes i 0) code
+
+abbrev pub inSets : List (List ℕ) → ℕ → ℕ → Bool
+inSets sets i code = ltb (i / 10) (length sets) && eqb (getD (getD sets (i / 10) []) (i % 10) 0) code
+
+unfoldable pub isRow : List ℕ → List (List ℕ) → Sought → ℕ → Bool
+isRow codes sets q row = pick (q .sets) (inSets sets row (q .code)) (inCodes codes row (q .code))
+
+unfoldable pub numberOf : Sought → ℕ → ℕ
+numberOf q row = (row + q .up) % 256
+
+-- n rows from one on
+abbrev pub rowBy : List ℕ → List (List ℕ) → Sought → ℕ → ℕ → Found
+rowBy codes sets q row zero = NoRow
+rowBy codes sets q row (suc n) =
+    let rest = rowBy codes sets q (row + 1) n in
+    pick (isRow codes sets q row) (Character (numberOf q row) (q .next)) rest
+
+abbrev pub foundBy : List ℕ → List (List ℕ) → Sought → Found
+foundBy codes sets q = pick (q .passed) (Passed (q .next)) (rowBy codes sets q (q .first) (q .past - q .first))
+
+-- the codes that reading a symbology takes
+unfoldable pub codesBy : List (List ℕ)
+codesBy = alphabetDigits .codes ∷ alphabet39 .codes ∷ alphabet39 .codes ∷ alphabetCodabar .codes ∷ []
+
+unfoldable pub codesFor : ℕ → List ℕ
+codesFor s = getD codesBy s (alphabetDigits .codes)
 
 -- ---- rows gathered, eight to a word
 
@@ -153,6 +241,13 @@ walkFrom s units t zero at g = stop g at zero
 walkFrom s units t (suc n) at g =
     let rest = walkFrom s units t n in
     onward (unitAt (kindOf (unitOf s units (suc n))) t at) rest g (stop g at (suc n))
+
+-- the same over lent tables, with the search over rows in it
+abbrev pub walkBy : List ℕ → List (List ℕ) → ℕ → ℕ → List ℕ → ℕ → ℕ → Gathered → Walked
+walkBy codes sets s units t zero at g = stop g at zero
+walkBy codes sets s units t (suc n) at g =
+    let rest = walkBy codes sets s units t n in
+    onward (foundBy codes sets (soughtOf (unitOf s units (suc n)) t at)) rest g (stop g at (suc n))
 
 -- ---- counts
 

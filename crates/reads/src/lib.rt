@@ -7,9 +7,9 @@
 //   counts      characters from a length, units from characters
 //   kinds       which unit stands where
 //   pack        a unit's elements packed to its code
-//   search      the plain core: the unit that stands at a place of the strip, by a search in its rows
+//   search      the plain core: what is sought at a place of the strip, and whether a row is it
 //   position    the reading position, a struct of slice and place, and thin functions over the core
-//   walk        the loop over units, which hands the position from unit to unit
+//   walk        the loop over units, which hands the position from unit to unit, and in it the search over rows
 //   gather      the row numbers on the way
 //   chars       characters from row numbers
 mod chars;
@@ -53,7 +53,7 @@ fn read_strip(symbology: u8, n: usize, strip: &[u8]) -> Rowed
     requires { ⌜ counted symbology n ≡ true ⌝ }
     ensures { λ r. ⌜ r ≡ told (shown symbology n (read (unitsOf symbology n) (now (strip .entry)))) ⌝ }
 {
-    let walked = walk::read_units(strip, symbology, counts::unit_count(symbology, n));
+    let walked = walk::read_all(strip, symbology, counts::unit_count(symbology, n));
     let at = walked.at;
     if 0 < walked.left {
         return turn_away(Answer::NoSuchUnit(at));

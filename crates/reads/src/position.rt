@@ -1,9 +1,9 @@
 // The reading position: one place over the scanner's strip, handed from unit to unit. Thin functions over the plain core.
 use super::search;
-use super::search::Found;
+use super::search::Sought;
 use words::ElementPlace;
 ghost use mathlib.Core.Path.{_≡_};
-ghost use Rattle.reads.specs.Held.{kindOf, unitOf, unitAt};
+ghost use Rattle.reads.specs.Held.{unitOf, soughtOf};
 
 pub struct Position<'a> {
     pub strip: &'a [u8],
@@ -26,11 +26,11 @@ pub fn here<'a>(p: Position<'a>) -> ElementPlace
     p.at
 }
 
-// The unit that stands there, where `left` of `units` are not yet read.
-pub fn unit<'a>(p: Position<'a>, symbology: u8, units: usize, left: usize) -> Found
-    ensures { λ r. ⌜ r ≡ unitAt (kindOf (unitOf symbology units left)) (now (p .entry .strip)) (p .entry .at .0) ⌝ }
+// What is sought there, where `left` of `units` are not yet read.
+pub fn sought<'a>(p: Position<'a>, symbology: u8, units: usize, left: usize) -> Sought
+    ensures { λ r. ⌜ r ≡ soughtOf (unitOf symbology units left) (now (p .entry .strip)) (p .entry .at .0) ⌝ }
 {
-    search::unit_at(p.strip, p.at, symbology, units, left)
+    search::sought_at(p.strip, p.at, symbology, units, left)
 }
 
 // The position at another place of the same strip.

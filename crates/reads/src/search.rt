@@ -1,116 +1,159 @@
-// The plain core: the unit that stands at a place of a strip. Its elements are packed to their code, and the rows that may stand
-// there are searched for it.
+// The plain core: what is sought at a place of a strip, and whether a row is it. A unit's elements are packed to their code first; the
+// walk then looks for a row that has it.
 use super::kinds;
 use super::kinds::Unit;
 use super::pack;
 use words::ElementPlace;
 ghost use mathlib.Core.Path.{_≡_};
+ghost use mathlib.Core.Bool.{Bool};
 ghost use Prim.Native.Nat.{_+_, _<_, _≤_, _^_};
 ghost use lib.Dec.{leb};
 ghost use lib.ListN.{length, getD};
-ghost use Rattle.laws.specs.Units.{fixed, free};
-ghost use Rattle.tables.specs.Bits.{spread};
-ghost use Rattle.tables.specs.Code39.{rows39};
-ghost use Rattle.tables.specs.Codabar.{innerRows, letterRows};
-ghost use Rattle.tables.specs.TwoOfFive.{industrialRows, interleavedRows, matrixRows};
-ghost use Rattle.tables.specs.Ean.{oddRows, leftRows, rightRows};
-ghost use Rattle.reads.specs.Held.{patternSeen, kindOf, unitOf, unitAt};
+ghost use Rattle.reads.specs.declared.kinds.Unit.the-variants.{Fixed, Char39, Letter, Inner, Industrial, Pair, Matrix, Odd, Left, Right};
+ghost use Rattle.reads.specs.Held.{patternSeen, unitOf, nowhere as specNowhere, seek, passedAt, firstBy, pastBy, soughtIn, soughtOf, inCodes, inSets, isRow, numberOf};
 
-// What stands at a place, and the place behind it.
-pub enum Found {
-    // A row of a set, by its number there.
-    Character(u8, ElementPlace),
-    // The one pattern that may stand there.
-    Passed(ElementPlace),
-    // A unit that is in no row.
-    NoRow,
+// What is sought at a unit: its code, in the table of codes or in the three sets of ten, at the indexes from `first` to before `past`.
+// An index and `up`, by 256, is the number that the unit's own rows give that row. Behind the unit is `next`. Where the one pattern
+// that may stand there does stand there, it is passed, and no row is sought.
+pub struct Sought {
+    pub code: u16,
+    pub sets: bool,
+    pub first: u8,
+    pub past: u8,
+    pub up: u8,
+    pub passed: bool,
+    pub next: ElementPlace,
 }
 
-fn fixed_at(strip: &[u8], at: usize, width: usize, code: u16) -> Found
+fn among(code: u16, sets: bool, first: u8, past: u8, up: u8, next: usize) -> Sought
+    ensures { λ r. ⌜ r ≡ seek code sets first past up next ⌝ }
+{
+    Sought {
+        code,
+        sets,
+        first,
+        past,
+        up,
+        passed: false,
+        next: ElementPlace(next),
+    }
+}
+
+// No row can be there.
+fn nowhere() -> Sought
+    ensures { λ r. ⌜ r ≡ specNowhere ⌝ }
+{
+    among(0, false, 0, 0, 0, 0)
+}
+
+fn fixed_at(strip: &[u8], at: usize, width: usize, code: u16) -> Sought
     requires { ⌜ (at + width ≤ length (now strip)) × ((width ≤ 9) × (code < 2 ^ width)) ⌝ }
-    ensures { λ r. ⌜ r ≡ unitAt (fixed (spread width code)) (now (strip .entry)) at ⌝ }
+    ensures { λ r. ⌜ r ≡ soughtIn (Fixed width code) (now (strip .entry)) at ⌝ }
 {
     if pack::pack(strip, at, 1, width) == code {
-        return Found::Passed(ElementPlace(at + width));
+        return passed(at + width);
     }
-    Found::NoRow
+    nowhere()
 }
 
-fn code39_at(strip: &[u8], at: usize) -> Found
+fn passed(next: usize) -> Sought
+    ensures { λ r. ⌜ r ≡ passedAt next ⌝ }
+{
+    Sought {
+        code: 0,
+        sets: false,
+        first: 0,
+        past: 0,
+        up: 0,
+        passed: true,
+        next: ElementPlace(next),
+    }
+}
+
+// Code 39's rows stand in tens by the one wide space that ten of them share; the last four have three wide spaces.
+fn first39(spaces: u16) -> u8
+    ensures { λ r. ⌜ r ≡ firstBy spaces ⌝ }
+{
+    match spaces {
+        0b0100 => 0,
+        0b0010 => 10,
+        0b0001 => 20,
+        0b1000 => 30,
+        _ => 39,
+    }
+}
+
+fn past39(spaces: u16) -> u8
+    ensures { λ r. ⌜ r ≡ pastBy spaces ⌝ }
+{
+    match spaces {
+        0b0100 => 10,
+        0b0010 => 20,
+        0b0001 => 30,
+        0b1000 => 39,
+        _ => 43,
+    }
+}
+
+fn code39_at(strip: &[u8], at: usize) -> Sought
     requires { ⌜ at + 9 ≤ length (now strip) ⌝ }
-    ensures { λ r. ⌜ r ≡ unitAt (free rows39) (now (strip .entry)) at ⌝ }
+    ensures { λ r. ⌜ r ≡ soughtIn Char39 (now (strip .entry)) at ⌝ }
 {
-    let value = tables::code39::found(pack::pack(strip, at, 1, 9));
-    if value < 43 {
-        return Found::Character(value, ElementPlace(at + 9));
-    }
-    Found::NoRow
+    let code = pack::pack(strip, at, 1, 9);
+    let spaces = code / 128 % 2 * 8 + code / 32 % 2 * 4 + code / 8 % 2 * 2 + code / 2 % 2;
+    among(code, false, first39(spaces), past39(spaces), 0, at + 9)
 }
 
-fn letter_at(strip: &[u8], at: usize) -> Found
+// Codabar's letters stand behind its sixteen inner characters.
+fn letter_at(strip: &[u8], at: usize) -> Sought
     requires { ⌜ at + 7 ≤ length (now strip) ⌝ }
-    ensures { λ r. ⌜ r ≡ unitAt (free letterRows) (now (strip .entry)) at ⌝ }
+    ensures { λ r. ⌜ r ≡ soughtIn Letter (now (strip .entry)) at ⌝ }
 {
-    let value = tables::codabar::found(pack::pack(strip, at, 1, 7));
-    if value < 16 {
-        return Found::NoRow;
-    }
-    if value < 20 {
-        return Found::Character(value - 16, ElementPlace(at + 7));
-    }
-    Found::NoRow
+    among(pack::pack(strip, at, 1, 7), false, 16, 20, 240, at + 7)
 }
 
-fn inner_at(strip: &[u8], at: usize) -> Found
+fn inner_at(strip: &[u8], at: usize) -> Sought
     requires { ⌜ at + 7 ≤ length (now strip) ⌝ }
-    ensures { λ r. ⌜ r ≡ unitAt (free innerRows) (now (strip .entry)) at ⌝ }
+    ensures { λ r. ⌜ r ≡ soughtIn Inner (now (strip .entry)) at ⌝ }
 {
-    let value = tables::codabar::found(pack::pack(strip, at, 1, 7));
-    if value < 16 {
-        return Found::Character(value, ElementPlace(at + 7));
-    }
-    Found::NoRow
+    among(pack::pack(strip, at, 1, 7), false, 0, 16, 0, at + 7)
 }
 
 // Five bars carry the digit, and the four spaces between them are narrow.
-fn industrial_at(strip: &[u8], at: usize) -> Found
+fn industrial_at(strip: &[u8], at: usize) -> Sought
     requires { ⌜ at + 9 ≤ length (now strip) ⌝ }
-    ensures { λ r. ⌜ r ≡ unitAt (free industrialRows) (now (strip .entry)) at ⌝ }
+    ensures { λ r. ⌜ r ≡ soughtIn Industrial (now (strip .entry)) at ⌝ }
 {
-    if pack::pack(strip, at + 1, 2, 4) != 0 {
-        return Found::NoRow;
+    if pack::pack(strip, at + 1, 2, 4) == 0 {
+        return among(pack::pack(strip, at, 2, 5), false, 0, 10, 0, at + 9);
     }
-    let value = tables::two_of_five::found(pack::pack(strip, at, 2, 5));
-    if value < 10 {
-        return Found::Character(value, ElementPlace(at + 9));
-    }
-    Found::NoRow
+    nowhere()
 }
 
-fn matrix_at(strip: &[u8], at: usize) -> Found
+fn matrix_at(strip: &[u8], at: usize) -> Sought
     requires { ⌜ at + 5 ≤ length (now strip) ⌝ }
-    ensures { λ r. ⌜ r ≡ unitAt (free matrixRows) (now (strip .entry)) at ⌝ }
+    ensures { λ r. ⌜ r ≡ soughtIn Matrix (now (strip .entry)) at ⌝ }
 {
-    let value = tables::two_of_five::found(pack::pack(strip, at, 1, 5));
-    if value < 10 {
-        return Found::Character(value, ElementPlace(at + 5));
-    }
-    Found::NoRow
+    among(pack::pack(strip, at, 1, 5), false, 0, 10, 0, at + 5)
 }
 
-// The first digit in the bars, the second in the spaces.
-fn pair_at(strip: &[u8], at: usize) -> Found
+// The first digit in the bars: it says which ten of the hundred pairs. The second, in the spaces, is sought among them.
+fn pair_at(strip: &[u8], at: usize) -> Sought
     requires { ⌜ at + 10 ≤ length (now strip) ⌝ }
-    ensures { λ r. ⌜ r ≡ unitAt (free interleavedRows) (now (strip .entry)) at ⌝ }
+    ensures { λ r. ⌜ r ≡ soughtIn Pair (now (strip .entry)) at ⌝ }
 {
-    let first = tables::two_of_five::found(pack::pack(strip, at, 2, 5));
-    let second = tables::two_of_five::found(pack::pack(strip, at + 1, 2, 5));
-    if first < 10 {
-        if second < 10 {
-            return Found::Character(10 * first + second, ElementPlace(at + 10));
-        }
+    let digit = tables::two_of_five::found(pack::pack(strip, at, 2, 5));
+    if digit < 10 {
+        return among(
+            pack::pack(strip, at + 1, 2, 5),
+            false,
+            0,
+            10,
+            10 * digit,
+            at + 10,
+        );
     }
-    Found::NoRow
+    nowhere()
 }
 
 fn pattern_at(strip: &[u8], at: usize) -> u16
@@ -120,39 +163,27 @@ fn pattern_at(strip: &[u8], at: usize) -> u16
     pack::pattern(strip[at], strip[at + 1], strip[at + 2], strip[at + 3])
 }
 
-fn odd_at(strip: &[u8], at: usize) -> Found
+fn odd_at(strip: &[u8], at: usize) -> Sought
     requires { ⌜ at + 4 ≤ length (now strip) ⌝ }
-    ensures { λ r. ⌜ r ≡ unitAt (free oddRows) (now (strip .entry)) at ⌝ }
+    ensures { λ r. ⌜ r ≡ soughtIn Odd (now (strip .entry)) at ⌝ }
 {
-    let found = tables::ean::found_pattern(pattern_at(strip, at));
-    if found.set == 0 {
-        return Found::Character(found.digit, ElementPlace(at + 4));
-    }
-    Found::NoRow
+    among(pattern_at(strip, at), true, 0, 10, 0, at + 4)
 }
 
 // A left unit of EAN-13: either set, all six places.
-fn left_at(strip: &[u8], at: usize) -> Found
+fn left_at(strip: &[u8], at: usize) -> Sought
     requires { ⌜ at + 4 ≤ length (now strip) ⌝ }
-    ensures { λ r. ⌜ r ≡ unitAt (free leftRows) (now (strip .entry)) at ⌝ }
+    ensures { λ r. ⌜ r ≡ soughtIn Left (now (strip .entry)) at ⌝ }
 {
-    let found = tables::ean::found_pattern(pattern_at(strip, at));
-    if found.set < 2 {
-        return Found::Character(10 * found.set + found.digit, ElementPlace(at + 4));
-    }
-    Found::NoRow
+    among(pattern_at(strip, at), true, 0, 20, 0, at + 4)
 }
 
 // A right unit begins with a bar: its pattern has bars where the one that begins with a space has spaces.
-fn right_at(strip: &[u8], at: usize) -> Found
+fn right_at(strip: &[u8], at: usize) -> Sought
     requires { ⌜ at + 4 ≤ length (now strip) ⌝ }
-    ensures { λ r. ⌜ r ≡ unitAt (free rightRows) (now (strip .entry)) at ⌝ }
+    ensures { λ r. ⌜ r ≡ soughtIn Right (now (strip .entry)) at ⌝ }
 {
-    let found = tables::ean::found_pattern(127 - pattern_at(strip, at));
-    if found.set == 2 {
-        return Found::Character(found.digit, ElementPlace(at + 4));
-    }
-    Found::NoRow
+    among(127 - pattern_at(strip, at), true, 20, 30, 236, at + 4)
 }
 
 // Whether k elements stand from a place on.
@@ -166,14 +197,14 @@ fn reaches(strip: &[u8], at: usize, k: usize) -> bool
     }
 }
 
-// The unit at a place, where `left` of `units` are not yet read.
-pub fn unit_at(strip: &[u8], at: ElementPlace, symbology: u8, units: usize, left: usize) -> Found
-    ensures { λ r. ⌜ r ≡ unitAt (kindOf (unitOf symbology units left)) (now (strip .entry)) (at .0) ⌝ }
+// What is sought at a place, where `left` of `units` are not yet read.
+pub fn sought_at(strip: &[u8], at: ElementPlace, symbology: u8, units: usize, left: usize) -> Sought
+    ensures { λ r. ⌜ r ≡ soughtOf (unitOf symbology units left) (now (strip .entry)) (at .0) ⌝ }
 {
     let i = at.0;
     let unit = kinds::unit_of(symbology, units, left);
     if !reaches(strip, i, kinds::width_of(unit)) {
-        return Found::NoRow;
+        return nowhere();
     }
     match unit {
         Unit::Fixed(width, code) => fixed_at(strip, i, width, code),
@@ -187,4 +218,43 @@ pub fn unit_at(strip: &[u8], at: ElementPlace, symbology: u8, units: usize, left
         Unit::Left => left_at(strip, i),
         Unit::Right => right_at(strip, i),
     }
+}
+
+fn in_codes(codes: &[u16], i: usize, code: u16) -> bool
+    ensures { λ r. ⌜ r ≡ inCodes (now (codes .entry)) i code ⌝ }
+{
+    if i < codes.len() {
+        codes[i] == code
+    } else {
+        false
+    }
+}
+
+// By set and digit.
+fn in_sets(sets: &[[u16; 10]], i: usize, code: u16) -> bool
+    ensures { λ r. ⌜ r ≡ inSets (now (sets .entry)) i code ⌝ }
+{
+    let set = i / 10;
+    if set < sets.len() {
+        sets[set][i % 10] == code
+    } else {
+        false
+    }
+}
+
+// Whether the row at an index is the one sought.
+pub fn is_row<'a>(codes: &'a [u16], sets: &'a [[u16; 10]], sought: Sought, row: u8) -> bool
+    ensures { λ r. ⌜ r ≡ isRow (now (codes .entry)) (now (sets .entry)) sought row ⌝ }
+{
+    if sought.sets {
+        return in_sets(sets, row as usize, sought.code);
+    }
+    in_codes(codes, row as usize, sought.code)
+}
+
+// The number that the unit's own rows give the row at an index.
+pub fn number_of(sought: Sought, row: u8) -> u8
+    ensures { λ r. ⌜ r ≡ numberOf sought row ⌝ }
+{
+    ((row as usize + sought.up as usize) % 256) as u8
 }

@@ -13,20 +13,20 @@ unit-count-requires c κs = counted-few _ _ (c .before .pre)
 
 returns : tie.Need-returns
 returns c =
-    c .turn-away .ensures ∙ stop-seen _ _ _ (c .before .before .before .before .before .before .before .pre) (c .before .before .before .before .read-units .result) _ (c .before .before .before .before .before .unit-count .ensures) (c .before .before .before .before .read-units .ensures)
+    c .turn-away .ensures ∙ stop-seen _ _ _ (c .before .before .before .before .before .before .before .pre) (c .before .before .before .before .read-all .result) _ (c .before .before .before .before .before .unit-count .ensures) (c .before .before .before .before .read-all .ensures)
     (omega (arith, c .before .if1 .taken))
 
 judge-requires : tie.Need-judge-requires
 judge-requires c κs =
     rw (c .words-of .ensures) (
-      under-seen _ _ _ (c .before .before .before .before .before .before .before .before .pre) (c .before .before .before .before .before .read-units .result) _ (c .before .before .before .before .before .before .unit-count .ensures) (c .before .before .before .before .before .read-units .ensures) (omega (arith, c .before .before .if1 .left)),
+      under-seen _ _ _ (c .before .before .before .before .before .before .before .before .pre) (c .before .before .before .before .before .read-all .result) _ (c .before .before .before .before .before .before .unit-count .ensures) (c .before .before .before .before .before .read-all .ensures) (omega (arith, c .before .before .if1 .left)),
       counted-few _ _ (c .before .before .before .before .before .before .before .before .pre),
     )
 
 returns-2 : tie.Need-returns-2
 returns-2 c =
-    rw (c .before .words-of .ensures) at (c .judge .ensures) ∙ all-seen _ _ _ (c .before .before .before .before .before .before .before .before .before .pre) (c .before .before .before .before .before .before .read-units .result) _ (c .before .before .before .before .before .before .before .unit-count .ensures)
-    (c .before .before .before .before .before .before .read-units .ensures) (omega (arith, c .before .before .before .if1 .left))
+    rw (c .before .words-of .ensures) at (c .judge .ensures) ∙ all-seen _ _ _ (c .before .before .before .before .before .before .before .before .before .pre) (c .before .before .before .before .before .before .read-all .result) _ (c .before .before .before .before .before .before .before .unit-count .ensures)
+    (c .before .before .before .before .before .before .read-all .ensures) (omega (arith, c .before .before .before .if1 .left))
 
 pub read-strip-spec : {M : Type 1} → statement M
 read-strip-spec =
