@@ -1,0 +1,10 @@
+pub mod Bodies
+pub mod Digits
+pub mod Putting
+pub mod Narrow
+pub mod Texts
+pub mod Runs
+pub mod Pieces
+pub mod Promise
+pub mod Only
+pub mod Example

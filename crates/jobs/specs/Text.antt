@@ -1,0 +1,51 @@
+-- What is printed: numbers in decimal, widths as digits, and words with single blanks between them.
+--
+--   digitsIn   a number's last digits, at most so many
+--   decimal    a number's decimal digits, none of them a leading zero; 0 is one digit. 20 digits hold every u64
+--   widths     each width as a digit
+--   line       words with a blank between each two, and the newline behind the last
+--   spaced     numbers, each with a blank behind it
+--   putIn      a text in a buffer from an index on: what stands before and behind stays
+--   Put        so it was written, and `next` is the place behind it
+--   front      a text at the buffer's front
+--   roomy      a text for a buffer of so many bytes: none where they are below 445, the longest line
+use mathlib.Core.Path.{_≡_}
+use mathlib.Core.List.{List, [], _∷_, _++_, map}
+use Prim.Native.Nat.{ℕ, zero, suc, _+_, _/_, _%_, _≤_}
+use lib.Dec.{ltb}
+use lib.ListN.{length, take, drop}
+use Rattle.laws.specs.Search.{pick}
+
+abbrev pub digitsIn : ℕ → ℕ → List ℕ
+digitsIn zero n = []
+digitsIn (suc k) n = let front = digitsIn k (n / 10) in pick (ltb n 10) ((48 + n) ∷ []) (front ++ ((48 + n % 10) ∷ []))
+
+unfoldable pub decimal : ℕ → List ℕ
+decimal n = digitsIn 20 n
+
+abbrev pub widths : List ℕ → List ℕ
+widths strip = map (λ w. 48 + w) strip
+
+abbrev pub line : List (List ℕ) → List ℕ
+line [] = 10 ∷ []
+line (w ∷ []) = w ++ (10 ∷ [])
+line (w ∷ v ∷ ws) = w ++ (32 ∷ line (v ∷ ws))
+
+abbrev pub spaced : List ℕ → List ℕ
+spaced [] = []
+spaced (n ∷ ns) = decimal n ++ (32 ∷ spaced ns)
+
+abbrev pub putIn : ℕ → List ℕ → List ℕ → List ℕ
+putIn at text out = take at out ++ (text ++ drop (at + length text) out)
+
+pub record Put (out : List ℕ) (at : ℕ) (text now : List ℕ) (next : ℕ) : Type 0 where
+  pub is : now ≡ putIn at text out
+  pub long : length now ≡ length out
+  pub behind : next ≡ at + length text
+  pub fits : at + length text ≤ length out
+
+abbrev pub front : List ℕ → List ℕ → List ℕ
+front text out = text ++ drop (length text) out
+
+abbrev pub roomy : ℕ → List ℕ → List ℕ
+roomy room text = pick (ltb room 445) [] text
