@@ -1,4 +1,14 @@
-.PHONY: test
+.PHONY: run test
+.DELETE_ON_ERROR:
+
+# Proves and builds the program, then prints the lines of a day's intake.
+run: examples/intake.job
+	rt check strips
+	target/bin/strips < examples/intake.job
+
+# The list is what a person edits. The job made of it is kept beside it, and the gate holds the two together.
+examples/intake.job: examples/intake.txt tools/job
+	sh tools/job examples/intake.txt > $@
 
 # The gate: proves everything from nothing and tries every must-fail edit.
 test:
