@@ -1,4 +1,5 @@
 pub mod Drawing
 pub mod Reading
+pub mod Four
 pub mod Order
 pub mod Bench

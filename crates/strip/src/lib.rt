@@ -9,6 +9,10 @@
 //
 // One definition gives the answer and the buffer of a call: `drawField` (specs/Drawing.antt), of which `draw` is the case of a
 // field of just the data's length, and `readStrip` (specs/Reading.antt).
+//
+// `c` has `draw` and `read` for callers from C.
+pub mod c;
+
 use rows::Handed;
 use rows::Row;
 use rows::Verdict;
