@@ -1,4 +1,4 @@
-.PHONY: run test
+.PHONY: run test bench
 .DELETE_ON_ERROR:
 
 # Proves and builds the program, then prints the lines of a day's intake.
@@ -13,3 +13,7 @@ examples/intake.job: examples/intake.txt tools/job
 # The gate: proves everything from nothing and tries every must-fail edit.
 test:
 	bash .ci/run
+
+# Times against plain C and others, in one run on one machine; never part of the gate.
+bench:
+	sh bench/run
