@@ -6,7 +6,6 @@
 --   low, fits-low            every set has at most b rows; then every choice that fits is below b
 --   measured-long, measured-low    both, of a symbology whose counts and sets pass one computed test
 --   later, entries, whole    the entries of a list, one by one, are the list; map-same, a map that changes nothing below b
---   below-allowed            outside Codabar, characters of the set are allowed
 --   Turns                    a symbology's choices and characters, each way
 --   plain-turns              where the choices are the row
 --   raised, raised-at        Codabar: 16 is put back at both ends; so are the characters
@@ -48,9 +47,8 @@ use Rattle.rows.specs.Coders.{placed}
 use Rattle.rows.specs.Symbologies.{symbologies, symbologyOf}
 use Rattle.units.specs.Plans.{lettered, paired, sides, sided, code39, codabar, industrial, interleaved, matrix, halves, plans, planOf, unitsOf}
 use Rattle.units.specs.Laid.{counted, allowed, allAllowed, ready}
-use Rattle.units.specs.Room.{allIn}
 use Rattle.units.proofs.Counted.{counted-few, counted-codabar, counted-even, counted-ean13, by-number}
-use Rattle.units.proofs.Ready.{ready-counted, ready-allowed, ready-below, allowed-in, letter-high}
+use Rattle.units.proofs.Ready.{ready-counted, ready-allowed, ready-below, below-allowed, letter-high}
 use Rattle.reads.specs.Seen.{Rows, paritiesIn, digitAt, sideAt, charOf, charsOf, unlike}
 
 abbrev pub shows : List ℕ → Rows
@@ -119,14 +117,6 @@ map-same : (g : ℕ → ℕ) (b : ℕ) (cs : List ℕ) → ((c : ℕ) → c < b 
 map-same g b [] h p = refl
 map-same g b (c ∷ cs) h p = rw (h c (p .0), map-same g b cs h (p .1))
 
--- outside Codabar a character is of its set, wherever it stands
-in-set : (b : ℕ) (r : List ℕ) → Below b r → allIn 0 b r ≡ true
-in-set b [] p = refl
-in-set b (c ∷ cs) p = rw (le-leb 0 c (omega arith), lt-ltb c b (p .0), in-set b cs (p .1))
-
-pub below-allowed : (s : ℕ) (r : List ℕ) → eqb s 3 ≡ false → Below (size (symbologyOf s .alphabet)) r → allAllowed s true r ≡ true
-below-allowed s r n p = allowed-in s true r n ∙ in-set (size (symbologyOf s .alphabet)) r p
-
 -- ---- each way
 
 pub record Turns (s : ℕ) : Type 0 where
@@ -155,7 +145,7 @@ module _ (s : ℕ) (n3 : eqb s 3 ≡ false) (n5 : eqb s 5 ≡ false) (n7 : eqb s
     chars = plain-chars;
     like = λ r h. rw n7;
     there = λ r h. p r;
-    allows = λ n cs k f u. below-allowed s cs n3 (measured-low s 1 (size (symbologyOf s .alphabet)) t n cs k f);
+    allows = λ n cs k f u. below-allowed s n3 true cs (measured-low s 1 (size (symbologyOf s .alphabet)) t n cs k f);
     again = λ n cs k f u. p cs;
   }
 
@@ -299,7 +289,7 @@ interleaved-turns = record {
   chars = λ n cs k f. interleaved-chars n cs (measured-long 5 2 100 pairs-are n cs k f);
   like = λ r h. refl;
   there = λ r h. paired-apart r (omega (arith, counted-even (length r) (ready-counted 5 r h))) (ready-below 5 r refl h);
-  allows = λ n cs k f u. below-allowed 5 (apart cs) refl (apart-below cs (measured-low 5 2 100 pairs-are n cs k f));
+  allows = λ n cs k f u. below-allowed 5 refl true (apart cs) (apart-below cs (measured-low 5 2 100 pairs-are n cs k f));
   again = λ n cs k f u. apart-paired cs;
 }
 
@@ -423,7 +413,7 @@ ean13-turns = record {
   chars = λ n cs k f. ean13-chars n cs (counted-ean13 n k) (halves-are n cs f .long);
   like = λ r h. ean13-like r (counted-ean13 (length r) (ready-counted 7 r h)) (ready-below 7 r refl h);
   there = λ r h. ean13-row r (counted-ean13 (length r) (ready-counted 7 r h)) (ready-below 7 r refl h);
-  allows = λ n cs k f u. below-allowed 7 (front cs) refl (omega (arith, ltb-false 9 (firstDigit (paritiesIn (shows cs))) u), digits-below cs);
+  allows = λ n cs k f u. below-allowed 7 refl true (front cs) (omega (arith, ltb-false 9 (firstDigit (paritiesIn (shows cs))) u), digits-below cs);
   again = λ n cs k f u. ean13-again cs (halves-are n cs f) (ltb-false 9 (firstDigit (paritiesIn (shows cs))) u);
 }
 

@@ -9,8 +9,8 @@
 --
 -- Assumes nothing.
 use mathlib.Core.Path.{_≡_, refl, sym}
-use mathlib.Core.Bool.{Bool, true, false, _&&_, or-true}
-use Prim.Native.Nat.{ℕ, zero, suc, _+_, _-_, _/_, _%_, _<_, _≤_}
+use mathlib.Core.Bool.{Bool, true, false, _&&_}
+use Prim.Native.Nat.{ℕ, _+_, _-_, _/_, _%_, _<_, _≤_}
 use native.Mathlib.Omega.{arith}
 use native.Mathlib.Decide.{decLt}
 use lib.Dec.{eqb, ltb, leb}
@@ -27,17 +27,11 @@ use Rattle.rows.proofs.Proper.{proper}
 use Rattle.units.specs.Totals.{totals, elementsOf}
 use Rattle.units.specs.Laid.{counts, counted}
 use Rattle.units.proofs.Counted.{counted-few, known, by-number}
+use Rattle.units.proofs.Ready.{counted-by}
 use Rattle.reads.specs.Seen.{fits, countOf}
 use Rattle.reads.specs.Held.{steps, only, countsBy, countFor}
 
 -- ---- what a mode can give
-
-counted-by : (s n m : ℕ) → m < 3 → counts (symbologyOf s) n m ≡ true → counted s n ≡ true
-unfolding counted
-counted-by s n zero l e = rw e
-counted-by s n (suc zero) l e = rw (e, or-true)
-counted-by s n (suc (suc zero)) l e = rw (e, or-true (counts (symbologyOf s) n 1), or-true)
-counted-by s n (suc (suc (suc m))) l e = absurd (omega arith)
 
 pub drawn-counted : (s m n : ℕ) → offered (symbologyOf s .limits) m ≡ true → drawable (symbologyOf s) m n ≡ true → counted s n ≡ true
 drawn-counted s m n o d = counted-by s n m (proper s .counts m o .mode) (rw (o, d))

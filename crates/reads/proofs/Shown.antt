@@ -5,23 +5,21 @@
 --
 -- Assumes nothing.
 use mathlib.Core.Path.{_≡_, refl, sym, ap, _∙_}
-use mathlib.Core.Bool.{Bool, true, false, not}
+use mathlib.Core.Bool.{true, false, not}
 use mathlib.Core.List.{List, map}
 use Prim.Native.Nat.{ℕ, zero, suc}
 use native.Mathlib.Omega.{arith}
 use lib.Dec.{eqb, ltb}
 use lib.ListN.{length, getD}
 use borrow.Author.Tests.{eqb-true, ltb-true, not-false}
-use Rattle.laws.specs.Search.{pick}
 use Rattle.laws.specs.Units.{Reading, found, stopped, read}
 use Rattle.laws.specs.Spelling.{counted}
 use Rattle.laws.proofs.Finite.{both-left, both-right}
-use Rattle.words.specs.declared.Answer.{Answer}
 use Rattle.words.specs.declared.Answer.the-variants.{NoSymbology, NoMode, BadLength, NoSuchParities}
 use Rattle.rows.specs.Limits.{offered}
 use Rattle.rows.specs.Symbologies.{symbologyOf}
-use Rattle.rows.specs.Rows.{Outcome, gives, turned, drawable}
-use Rattle.rows.proofs.Undo.{past-turned}
+use Rattle.rows.specs.Rows.{gives, drawable}
+use Rattle.rows.proofs.Undo.{past-turned, past-given}
 use Rattle.units.specs.Plans.{unitsOf}
 use Rattle.units.specs.Totals.{elementsOf}
 use Rattle.reads.specs.Seen.{Rows, unlike, charOf, charsOf, rowFrom, shown, countOf, fits, seen, rowSeen}
@@ -36,10 +34,6 @@ pub record Shown (s m : ℕ) (t r : List ℕ) : Type 0 where
 chars-long : (f : ℕ → ℕ) (i n : ℕ) → length (map f (counted i n)) ≡ n
 chars-long f i zero = refl
 chars-long f i (suc n) = ap suc (chars-long f (suc i) n)
-
-past-given : (b : Bool) (a : Answer) (z : Outcome) (r : List ℕ) → pick b z (turned a) ≡ gives r → (b ≡ true) × (z ≡ gives r)
-past-given true a z r e = (refl, e)
-past-given false a z r e = (cc, cc)
 
 row-long : (s n : ℕ) (f : Rows) (r : List ℕ) → rowFrom s n f ≡ gives r → length r ≡ n
 unfolding charsOf

@@ -1,7 +1,7 @@
 -- `dataOf` and `rowOf` undo one another, for every symbology number and mode by one argument: the coder's spelling and its way
 -- back, and the check behind it.
 --
---   past-turned     one test passed
+--   past-turned, past-given    one test passed
 --   Undrew, undrew, undrawn    a row that is read, each way
 --   held            a count that is held
 --   empty-rest      nothing stands behind the data alone
@@ -45,7 +45,7 @@ pub past-turned : (b : Bool) (a : Answer) (z : Outcome) (r : List ℕ) → pick 
 past-turned true a z r e = (cc, cc)
 past-turned false a z r e = (refl, e)
 
-past-given : (b : Bool) (a : Answer) (z : Outcome) (r : List ℕ) → pick b z (turned a) ≡ gives r → (b ≡ true) × (z ≡ gives r)
+pub past-given : (b : Bool) (a : Answer) (z : Outcome) (r : List ℕ) → pick b z (turned a) ≡ gives r → (b ≡ true) × (z ≡ gives r)
 past-given true a z r e = (refl, e)
 past-given false a z r e = (cc, cc)
 

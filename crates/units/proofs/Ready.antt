@@ -4,6 +4,7 @@
 --   ready-counted, ready-allowed, ready-below    what a ready row passed: its count, its characters, outside Codabar each of its set
 --   below-allowed, allowed-in    outside Codabar a character is of its set, wherever it stands
 --   no-codabar      Codabar offers no check
+--   counted-by      a count that some mode draws is a count of the symbology
 --   drawn-ready     a row that is drawn is ready
 --   letter-high, letter-low    Codabar's letters have the values 16 to 19
 --   below-split     characters of one set, in two parts
@@ -96,7 +97,7 @@ or-right : (a b : Bool) → b ≡ true → (a || b) ≡ true
 or-right true b p = refl
 or-right false b p = p
 
-counted-by : (s n m : ℕ) → m < 3 → counts (symbologyOf s) n m ≡ true → counted s n ≡ true
+pub counted-by : (s n m : ℕ) → m < 3 → counts (symbologyOf s) n m ≡ true → counted s n ≡ true
 unfolding counted
 counted-by s n zero l e = or-left _ _ e
 counted-by s n (suc zero) l e = or-right (counts (symbologyOf s) n 0) _ (or-left _ _ e)
