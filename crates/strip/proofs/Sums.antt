@@ -14,16 +14,17 @@ use lib.Seq.{drop-cons}
 use Rattle.laws.specs.Elements.{sum}
 
 pub record Summed (t : List ℕ) (total i : ℕ) : Type 0 where
+  pub within : i ≤ length t
   pub few : total ≤ 255 * i
   pub same : sum t ≡ total + sum (drop i t)
 
 pub begun : (t : List ℕ) → Summed t 0 0
-begun t = record { few = omega arith; same = omega arith }
+begun t = record { within = omega arith; few = omega arith; same = omega arith }
 
 pub more : (t : List ℕ) (total i : ℕ) → i < length t → getD t i 0 < 256 → Summed t total i → Summed t (total + getD t i 0) (i + 1)
 more t total i h w s =
     let q = rw (drop-cons t i 0 h) at (s .same) in
-    record { few = omega (arith, s .few); same = rw add-one (omega (arith, q)) }
+    record { within = omega arith; few = omega (arith, s .few); same = rw add-one (omega (arith, q)) }
 
 pub all : (t : List ℕ) (total i : ℕ) → length t ≤ i → Summed t total i → total ≡ sum t
 all t total i h s = let q = rw (drop-of-length-le t h) at (s .same) in omega (arith, q)

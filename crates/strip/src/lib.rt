@@ -93,11 +93,11 @@ fn modules_in(strip: &[u8]) -> usize
     requires { ⌜ length (now strip) ≤ 339 ⌝ }
     ensures { λ r. ⌜ r ≡ sum (now (strip .entry)) ⌝ }
 {
-    let mut total = 0;
+    let mut total: u32 = 0;
     let mut i = 0;
     while i < strip.len() {
-        total += strip[i] as usize;
+        total += strip[i] as u32;
         i += 1;
     }
-    total
+    total as usize
 }

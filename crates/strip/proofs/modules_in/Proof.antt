@@ -35,4 +35,5 @@ modules-in-spec =
     (λ c. search needs)
     (λ c. omega arith)
     loop-again
+    (λ c. omega (arith, c .before .loop .inv .few, c .before .loop .inv .within))
     (λ c. all _ _ _ (c .loop-test .left) (c .before .loop .inv)))
