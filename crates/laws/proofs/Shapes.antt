@@ -3,7 +3,6 @@
 --   holds-many, holds-shape    a fact of kinds, of a repeated group and of a shape
 --   all-shape       so of good sets
 --   add-shape       what adds up over kinds, of a shape
---   widths-shape    so of its elements
 --
 -- Assumes nothing.
 use mathlib.Core.Path.{_≡_}
@@ -11,7 +10,7 @@ use mathlib.Core.List.{List, [], _∷_, _++_}
 use Prim.Native.Nat.{ℕ, zero, suc, _+_, _*_}
 use native.Mathlib.Omega.{arith}
 use native.Mathlib.Nat.{suc-mul}
-use Rattle.laws.specs.Units.{Kind, fixed, free, widths, All}
+use Rattle.laws.specs.Units.{Kind, fixed, free, All}
 use Rattle.laws.specs.Shapes.{Layout, many, shape}
 
 -- a fact of kinds that holds of two lists and so of both, one behind the other
@@ -31,7 +30,7 @@ all-append (free k ∷ a) b g h = (g .0, all-append a b (g .1) h)
 pub all-shape : (l : Layout) (n : ℕ) → All (l .head) → All (l .group) → All (l .tail) → All (shape l n)
 all-shape = holds-shape All all-append
 
--- a measure of kinds that adds up: elements, or free units
+-- a measure of kinds that adds up: modules, or units
 module _ (f : List Kind → ℕ) (add : (a b : List Kind) → f (a ++ b) ≡ f a + f b) where
   add-many : (n : ℕ) (group rest : List Kind) → f (many n group rest) ≡ n * f group + f rest
   add-many zero group rest = omega arith
@@ -39,10 +38,3 @@ module _ (f : List Kind → ℕ) (add : (a b : List Kind) → f (a ++ b) ≡ f a
 
   pub add-shape : (l : Layout) (n : ℕ) → f (shape l n) ≡ f (l .head) + (n * f (l .group) + f (l .tail))
   add-shape l n = rw (add, add-many)
-
-widths-append : (a b : List Kind) → widths (a ++ b) ≡ widths a + widths b
-widths-append [] b = omega arith
-widths-append (k ∷ a) b = omega (arith, widths-append a b)
-
-pub widths-shape : (l : Layout) (n : ℕ) → widths (shape l n) ≡ widths (l .head) + (n * widths (l .group) + widths (l .tail))
-widths-shape = add-shape widths widths-append

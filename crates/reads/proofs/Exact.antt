@@ -1,6 +1,5 @@
 -- Strips and rows: what is drawn is seen, and what is seen is the strip of just the row that is given.
 --
---   unit-widths   the elements of the units are those of the table, for every count of the symbology
 --   seen-is       where a mode gives n characters, a strip of their length shows what its units read
 --   read-own      the units of a ready row's strip read its choices
 --   ready-seen    a ready row of a count that the mode can give is seen in its strip
@@ -36,27 +35,12 @@ use Rattle.units.specs.Totals.{totals, elementsOf}
 use Rattle.units.specs.Laid.{counted, allAllowed, ready}
 use Rattle.units.proofs.Counted.{counted-few, known}
 use Rattle.units.proofs.Ready.{drawn-ready, ready-counted, ready-fits, all-good}
-use Rattle.units.proofs.Totals.{elements}
+use Rattle.units.proofs.Totals.{unit-widths, elements}
 use Rattle.reads.specs.Seen.{unlike, charsOf, rowFrom, shown, countOf, seen, rowSeen}
 use Rattle.reads.specs.Held.{countFor}
 use Rattle.reads.proofs.Lengths.{drawn-counted, same-count, count-fits}
 use Rattle.reads.proofs.Shown.{Shown, shown-row}
 use Rattle.reads.proofs.Choices.{shows, Turns, turns}
-
--- ---- the elements of the units
-
-abbrev wide : ℕ → ℕ → Bool
-wide s n = pick (counted s n) (eqb (widths (unitsOf s n)) (elementsOf s n)) true
-
-all-wide : upto 10 (λ s. upto 35 (λ n. wide s n)) ≡ true
-unfolding counted symbologyOf symbologies elementsOf totals unitsOf planOf plans code39 codabar industrial interleaved matrix halves rows39 star39 innerRows letterRows industrialRows industrialStart industrialStop interleavedRows interleavedStart interleavedStop matrixRows matrixEnds digitRows oddRows evenRows leftRows rightRows guard centre rowsOf bitsOf alphabet39 chars39 table42 alphabetCodabar table41 alphabetDigits table44 patterns table52
-all-wide = refl
-
-unit-widths : (s n : ℕ) → counted s n ≡ true → widths (unitsOf s n) ≡ elementsOf s n
-unit-widths s n e =
-    let t : wide s n ≡ true
-    = upto-at 35 (λ n. wide s n) (upto-at 10 (λ s. upto 35 (λ n. wide s n)) all-wide s (known s n e .1)) n (omega (arith, counted-few s n e)) in
-    eqb-true (widths (unitsOf s n)) (elementsOf s n) (rw e at t)
 
 -- ---- what a strip of n characters shows
 

@@ -18,7 +18,7 @@ use lib.ListN.{getD}
 use borrow.Author.Tests.{ltb-true, leb-true, eqb-true, eq-eqb}
 use Rattle.laws.specs.Search.{pick}
 use Rattle.laws.specs.Spelling.{counted as upFrom}
-use Rattle.laws.proofs.Finite.{both-left, both-right, upto, upto-at, line, From}
+use Rattle.laws.proofs.Finite.{both-left, both-right, line, From}
 use Rattle.laws.proofs.Search.{first-le, first-hit, first-most}
 use Rattle.rows.specs.Limits.{offered}
 use Rattle.rows.specs.Symbologies.{symbologies, symbologyOf}
@@ -26,7 +26,7 @@ use Rattle.rows.specs.Rows.{drawable}
 use Rattle.rows.proofs.Proper.{proper}
 use Rattle.units.specs.Totals.{totals, elementsOf}
 use Rattle.units.specs.Laid.{counts, counted}
-use Rattle.units.proofs.Counted.{counted-few, known, by-number}
+use Rattle.units.proofs.Counted.{counted-few, by-number, counting, each-count}
 use Rattle.units.proofs.Ready.{counted-by}
 use Rattle.reads.specs.Seen.{fits, countOf}
 use Rattle.reads.specs.Held.{steps, only, countsBy, countFor}
@@ -39,17 +39,14 @@ drawn-counted s m n o d = counted-by s n m (proper s .counts m o .mode) (rw (o, 
 -- ---- from a count to its length and back, by one test of every count
 
 abbrev returns : ℕ → ℕ → Bool
-returns s n = pick (counted s n) (ltb 0 n && eqb (countFor s (elementsOf s n)) n) true
+returns s n = ltb 0 n && eqb (countFor s (elementsOf s n)) n
 
-all-return : upto 10 (λ s. upto 35 (λ n. returns s n)) ≡ true
+all-return : counting returns ≡ true
 unfolding counted symbologyOf symbologies elementsOf totals countFor countsBy
 all-return = refl
 
-returned : (s n : ℕ) → counted s n ≡ true → (ltb 0 n && eqb (countFor s (elementsOf s n)) n) ≡ true
-returned s n e =
-    let t : returns s n ≡ true
-    = upto-at 35 (λ n. returns s n) (upto-at 10 (λ s. upto 35 (λ n. returns s n)) all-return s (known s n e .1)) n (omega (arith, counted-few s n e)) in
-    rw e at t
+returned : (s n : ℕ) → counted s n ≡ true → returns s n ≡ true
+returned = each-count returns all-return
 
 pub same-count : (s n : ℕ) → counted s n ≡ true → countFor s (elementsOf s n) ≡ n
 same-count s n e = eqb-true _ n (both-right (ltb 0 n) _ (returned s n e))

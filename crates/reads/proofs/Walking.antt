@@ -20,15 +20,15 @@ use Rattle.laws.specs.Search.{pick}
 use Rattle.laws.specs.Elements.{find}
 use Rattle.laws.specs.Units.{Kind, fixed, free, rows, width, frees, Reading, found, stopped, push, next, readAt, read}
 use Rattle.laws.specs.Shapes.{gap}
-use Rattle.laws.proofs.Finite.{upto, upto-at}
 use Rattle.tables.specs.Alphabet.{rowsOf}
 use Rattle.tables.specs.Code39.{rows39, alphabet39, chars39}
 use Rattle.tables.specs.Codabar.{innerRows, letterRows, alphabetCodabar, table41}
 use Rattle.tables.specs.TwoOfFive.{industrialRows, interleavedRows, matrixRows, digitRows, alphabetDigits, table44}
 use Rattle.tables.specs.Ean.{oddRows, evenRows, leftRows, rightRows, patterns, table52}
+use Rattle.rows.specs.Symbologies.{symbologies, symbologyOf}
 use Rattle.units.specs.Plans.{code39, codabar, industrial, interleaved, matrix, halves, plans, planOf, unitsOf}
 use Rattle.units.specs.Laid.{counted}
-use Rattle.units.proofs.Counted.{counted-few, known}
+use Rattle.units.proofs.Counted.{counting, each-count}
 use Rattle.reads.specs.declared.kinds.Unit.{Unit}
 use Rattle.reads.specs.declared.kinds.Unit.the-variants.{Fixed, Char39, Letter, Inner, Industrial, Pair, Matrix, Odd, Left, Right}
 use Rattle.reads.specs.declared.gather.Gathered.{Gathered}
@@ -108,16 +108,13 @@ walked s units t (k ∷ ks) is at g cs l gs u =
     (step at g cs gs u (walkFrom s units t (length ks)) (readAt ks (at + width k) (drop (at + width k) t)) (length ks) (ltb c (length (rows k))) k c ks low l
     (λ h ds m hs v. walked s units t ks more (at + width k) h ds m hs v))
 
--- at most 34 of a strip's units are free
-frees-test : upto 10 (λ s. upto 35 (λ n. leb (frees (unitsOf s n)) 40)) ≡ true
-unfolding unitsOf planOf plans code39 codabar industrial interleaved matrix halves
+-- the free units of a strip are no more than can be gathered
+frees-test : counting (λ s n. leb (frees (unitsOf s n)) 40) ≡ true
+unfolding counted symbologyOf symbologies unitsOf planOf plans code39 codabar industrial interleaved matrix halves
 frees-test = refl
 
 few-frees : (s n : ℕ) → counted s n ≡ true → frees (unitsOf s n) ≤ 40
-few-frees s n e =
-    leb-true (frees (unitsOf s n)) 40
-    (upto-at 35 (λ n. leb (frees (unitsOf s n)) 40) (upto-at 10 (λ s. upto 35 (λ n. leb (frees (unitsOf s n)) 40)) frees-test s (known s n e .1)) n
-    (omega (arith, counted-few s n e)))
+few-frees s n e = leb-true (frees (unitsOf s n)) 40 (each-count (λ s n. leb (frees (unitsOf s n)) 40) frees-test s n e)
 
 pub walk-read : (s n : ℕ) (t : List ℕ) → counted s n ≡ true → Ended (read (unitsOf s n) t) (walkFrom s (unitCount s n) t (unitCount s n) 0 noneSeen) []
 walk-read s n t e =

@@ -8,6 +8,7 @@
 --   counted-ean13, counted-ean8, counted-upc    in EAN and UPC just one
 --   known             only the numbers 1 to 9 count anything
 --   by-number         so a fact of those nine is a fact of every such symbology
+--   counting, each-count    a test of every count of every symbology, and what it says of one
 --
 -- Assumes nothing.
 use mathlib.Core.Path.{_≡_, refl, sym, _∙_}
@@ -18,6 +19,7 @@ use native.Mathlib.Decide.{decLt}
 use lib.Dec.{eqb, leb}
 use lib.ListN.{getD, List·getD-eq-default}
 use borrow.Author.Tests.{eqb-true, leb-true}
+use Rattle.laws.specs.Search.{pick}
 use Rattle.laws.proofs.Finite.{both-left, both-right, upto, upto-at, From, from-at}
 use Rattle.rows.specs.Limits.{unknown, offered, holds}
 use Rattle.rows.specs.Checks.{noCheck}
@@ -169,3 +171,13 @@ known s n e = (go (decLt 0 s), past (decLt s 10))
 
 pub by-number : (P : ℕ → Type 0) → From P 1 9 → (s n : ℕ) → counted s n ≡ true → P s
 by-number P f s n e = let k : (0 < s) × (s < 10) = known s n e in from-at P 1 9 f s (k .0) (k .1)
+
+-- ---- a test of every count
+
+abbrev pub counting : (ℕ → ℕ → Bool) → Bool
+counting f = upto 10 (λ s. upto 35 (λ n. let t = f s n in pick (counted s n) t true))
+
+pub each-count : (f : ℕ → ℕ → Bool) → counting f ≡ true → (s n : ℕ) → counted s n ≡ true → f s n ≡ true
+each-count f t s n e =
+    let ts = upto-at 10 (λ s. upto 35 (λ n. pick (counted s n) (f s n) true)) t s (known s n e .1) in
+    rw e at (upto-at 35 (λ n. pick (counted s n) (f s n) true) ts n (omega (arith, counted-few s n e)))
