@@ -4,6 +4,7 @@
 --   find-hit, find-own       what a search among rows finds, and that a row by itself is found
 --   dist-self, dist-set      no distance from itself; one changed element is a distance of one
 --   dist-append              rows of one length, one behind the other
+--   stretch-long             a stretch inside a row has its length
 --   sum-append               modules add up
 --   sum-far                  rows of one length and one sum do not differ in exactly one element
 --
@@ -12,11 +13,12 @@ use mathlib.Core.Path.{_≡_, refl, sym}
 use mathlib.Core.Logic.{_≢_}
 use mathlib.Core.Bool.{Bool, true, false}
 use mathlib.Core.List.{List, [], _∷_, _++_}
-use Prim.Native.Nat.{ℕ, zero, suc, _+_, _<_}
+use Prim.Native.Nat.{ℕ, zero, suc, _+_, _<_, _≤_}
 use native.Mathlib.Omega.{arith}
 use native.Mathlib.Nat.{le-of-suc-le-suc, not-suc-le-zero}
 use lib.Dec.{eqb}
-use lib.ListN.{length, getD, set}
+use lib.ListN.{length, getD, take, drop, set, length-drop}
+use lib.Seq.{length-take-le}
 use borrow.Author.Tests.{eqb-true, eqb-false, eq-eqb, ne-eqb}
 use Rattle.laws.specs.Search.{pick}
 use Rattle.laws.specs.Elements.{alike, find, dist, sum}
@@ -60,6 +62,9 @@ dist-append [] [] c d e = omega arith
 dist-append [] (y ∷ ys) c d e = absurd (omega arith)
 dist-append (x ∷ xs) [] c d e = absurd (omega arith)
 dist-append (x ∷ xs) (y ∷ ys) c d e = append-step (eqb x y) (dist xs ys) (dist c d) _ (dist-append xs ys c d (omega arith))
+
+pub stretch-long : (t : List ℕ) (at k : ℕ) → at + k ≤ length t → length (take k (drop at t)) ≡ k
+stretch-long t at k h = length-take-le k (drop at t) (rw length-drop (omega arith))
 
 pub sum-append : (a b : List ℕ) → sum (a ++ b) ≡ sum a + sum b
 sum-append [] b = omega arith

@@ -2,6 +2,7 @@
 --
 --   Drawn, Valid    what is asked of a coder: a byte draws nothing, one character that begins no pair, or a pair; and the
 --                   search finds it again
+--   counted-length  n numbers from one on are n
 --   for-hit         a byte that is found draws the item
 --   for-own         and where no other byte draws it, that byte is found
 --   for-none        where no byte draws an item, none is found
@@ -49,7 +50,7 @@ counted-at i zero j h = absurd (not-suc-le-zero h)
 counted-at i (suc n) zero h = omega arith
 counted-at i (suc n) (suc j) h = omega (arith, counted-at (suc i) n j (le-of-suc-le-suc h))
 
-counted-length : (i n : ℕ) → length (counted i n) ≡ n
+pub counted-length : (i n : ℕ) → length (counted i n) ≡ n
 counted-length i zero = refl
 counted-length i (suc n) = ap suc (counted-length (suc i) n)
 

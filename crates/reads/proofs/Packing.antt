@@ -7,8 +7,7 @@
 --   packed-spread    a code's elements pack to it
 --   alike-spread     THE ONE FACT: a code's elements are alike to others exactly if those pack to it
 --   strided-take     elements one apart are a stretch of the strip
---   stretch-long     a stretch inside the strip has its length
---   below            every number of a list is below a bound, by a test
+--   one-hit, one-miss    one element by itself, by its code
 --   find-spread      a search among spread codes is a search among the codes
 --   found-rows       the same for an alphabet's rows
 --   unit-row, unit-none    a unit of a set, by the row that a search finds; a unit of which no row is there
@@ -18,7 +17,7 @@
 --                    `pack-room`, the code does not wrap; `pack-place`, the element is inside the strip
 --
 -- Assumes nothing.
-use mathlib.Core.Path.{_≡_, refl, sym, ap}
+use mathlib.Core.Path.{_≡_, refl, sym, ap, _∙_}
 use mathlib.Core.Logic.{_≢_}
 use mathlib.Core.Bool.{Bool, true, false, _&&_}
 use mathlib.Core.List.{List, [], _∷_, map}
@@ -27,18 +26,19 @@ use native.Mathlib.Omega.{arith}
 use native.Mathlib.Nat.{pow-suc, pow-le-pow-right, div-one, div-le-self, div-div-eq-div-mul, div-eq-of-lt, mod-lt, mul-suc, mul-le-mul-left, one-mul, add-zero, pow-succ'}
 use native.Mathlib.Numerals.{add-one}
 use lib.Dec.{eqb, ltb, leb, lit<, lit≤}
-use lib.ListN.{length, getD, take, drop, length-drop}
-use lib.Seq.{length-take-le, drop-cons}
+use lib.ListN.{length, getD, take, drop}
+use lib.Seq.{drop-cons}
 use borrow.Author.Tests.{eqb-true, eq-eqb, ne-eqb, ltb-true, leb-true, lt-ltb, le-ltb, le-leb}
 use Rattle.laws.specs.Search.{pick, indexIn}
 use Rattle.laws.specs.Elements.{alike, find}
 use Rattle.laws.specs.Units.{Kind, fixed, free, rows, width}
 use Rattle.laws.proofs.Finite.{both-left, both-right}
-use Rattle.laws.proofs.Elements.{alike-true, alike-self, find-hit}
+use Rattle.laws.proofs.Elements.{alike-true, alike-self, find-hit, stretch-long}
+use Rattle.laws.proofs.Spelling.{below-test}
 use Rattle.tables.specs.Bits.{bit, spread, number, numberFrom}
 use Rattle.tables.specs.Alphabet.{Alphabet, size, foundOf, rowsOf}
 use Rattle.reads.specs.Seen.{elementPlace}
-use Rattle.reads.specs.Held.{bitOf, strided, codeOf, Character, Passed, NoRow, unitAt}
+use Rattle.reads.specs.Held.{bitOf, strided, small, codeOf, Character, Passed, NoRow, unitAt}
 
 -- ---- one element
 
@@ -142,24 +142,36 @@ strided-from t at j (suc n) h =
 pub strided-take : (t : List ℕ) (at k : ℕ) → at + k ≤ length t → strided t at 1 0 k ≡ take k (drop at t)
 strided-take t at k h = rw (add-zero at) at (strided-from t at 0 k (omega arith))
 
-pub stretch-long : (t : List ℕ) (at k : ℕ) → at + k ≤ length t → length (take k (drop at t)) ≡ k
-stretch-long t at k h = length-take-le k (drop at t) (rw length-drop (omega arith))
+-- ---- one element by itself
+
+one-code : (t : List ℕ) (at : ℕ) → codeOf (strided t at 1 0 1) ≡ small (bitOf (getD t at 0))
+unfolding codeOf
+one-code t at =
+    let b : ℕ = bitOf (getD t at 0) in
+    let e : 2 * 0 + b ≡ b = omega arith in
+    rw (add-zero at) (ap small e)
+
+pub one-hit : (t : List ℕ) (at c : ℕ) → c < 2 → getD t at 0 ≡ 1 + 2 * c → codeOf (strided t at 1 0 1) ≡ c
+one-hit t at c h e = one-code t at ∙ rw (e, bit-back c h, lt-ltb c 65536 (omega arith))
+
+by-small : (w c : ℕ) (q : Bool) → ltb (bitOf w) 65536 ≡ q → c < 2 → pick q (bitOf w) 65535 ≡ c → w ≡ 1 + 2 * c
+by-small w c true e h f = plain w (ltb-true (bitOf w) 65536 e) .wide ∙ ap (λ (b : ℕ). 1 + 2 * b) f
+by-small w c false e h f = absurd (omega arith)
+
+pub one-miss : (t : List ℕ) (at c : ℕ) → c < 2 → getD t at 0 ≢ 1 + 2 * c → codeOf (strided t at 1 0 1) ≢ c
+one-miss t at c h n e = n (by-small (getD t at 0) c (ltb (bitOf (getD t at 0)) 65536) refl h (sym (one-code t at) ∙ e))
 
 -- ---- a search among rows
 
-abbrev pub below : ℕ → List ℕ → Bool
-below m [] = true
-below m (c ∷ cs) = let t = below m cs in ltb c m && t
-
-find-spread : (k : ℕ) (codes ws : List ℕ) → length ws ≡ k → k ≤ 10 → below (2 ^ k) codes ≡ true
+find-spread : (k : ℕ) (codes ws : List ℕ) → length ws ≡ k → k ≤ 10 → below-test (2 ^ k) codes ≡ true
     → find (map (spread k) codes) ws ≡ indexIn codes (codeOf ws)
 unfolding indexIn
 find-spread k [] ws l b t = refl
 find-spread k (c ∷ cs) ws l b t =
-    let h : c < 2 ^ k = ltb-true c (2 ^ k) (both-left (ltb c (2 ^ k)) (below (2 ^ k) cs) t) in
-    rw (alike-spread k c ws l b h, find-spread k cs ws l b (both-right (ltb c (2 ^ k)) (below (2 ^ k) cs) t)) refl
+    let h : c < 2 ^ k = ltb-true c (2 ^ k) (both-left (ltb c (2 ^ k)) (below-test (2 ^ k) cs) t) in
+    rw (alike-spread k c ws l b h, find-spread k cs ws l b (both-right (ltb c (2 ^ k)) (below-test (2 ^ k) cs) t)) refl
 
-pub found-rows : (n : ℕ) (a : Alphabet) → n ≤ 10 → below (2 ^ n) (take (size a) (a .codes)) ≡ true → (ws : List ℕ) → length ws ≡ n
+pub found-rows : (n : ℕ) (a : Alphabet) → n ≤ 10 → below-test (2 ^ n) (take (size a) (a .codes)) ≡ true → (ws : List ℕ) → length ws ≡ n
     → find (rowsOf n a) ws ≡ foundOf a (codeOf ws)
 unfolding foundOf rowsOf
 found-rows n a h b ws l = find-spread n (take (size a) (a .codes)) ws l h b

@@ -7,14 +7,15 @@
 use mathlib.Core.Path.{_≡_, refl, sym, ap, _∙_}
 use mathlib.Core.Bool.{true, false, not}
 use mathlib.Core.List.{List, map}
-use Prim.Native.Nat.{ℕ, zero, suc}
+use Prim.Native.Nat.{ℕ}
 use native.Mathlib.Omega.{arith}
 use lib.Dec.{eqb, ltb}
-use lib.ListN.{length, getD}
+use lib.ListN.{length, getD, length-map}
 use borrow.Author.Tests.{eqb-true, ltb-true, not-false}
 use Rattle.laws.specs.Units.{Reading, found, stopped, read}
 use Rattle.laws.specs.Spelling.{counted}
 use Rattle.laws.proofs.Finite.{both-left, both-right}
+use Rattle.laws.proofs.Spelling.{counted-length}
 use Rattle.words.specs.declared.Answer.the-variants.{NoSymbology, NoMode, BadLength, NoSuchParities}
 use Rattle.rows.specs.Limits.{offered}
 use Rattle.rows.specs.Symbologies.{symbologyOf}
@@ -31,16 +32,12 @@ pub record Shown (s m : ℕ) (t r : List ℕ) : Type 0 where
   pub can : drawable (symbologyOf s) m (length r) ≡ true
   pub long : elementsOf s (length r) ≡ length t
 
-chars-long : (f : ℕ → ℕ) (i n : ℕ) → length (map f (counted i n)) ≡ n
-chars-long f i zero = refl
-chars-long f i (suc n) = ap suc (chars-long f (suc i) n)
-
 row-long : (s n : ℕ) (f : Rows) (r : List ℕ) → rowFrom s n f ≡ gives r → length r ≡ n
 unfolding charsOf
 row-long s n f r e =
     let g : gives (map (charOf s n f) (counted 0 n)) ≡ gives r = past-turned (unlike s f) NoSuchParities _ r e .1 in
     let q : map (charOf s n f) (counted 0 n) ≡ r = cc in
-    ap length (sym q) ∙ chars-long (charOf s n f) 0 n
+    ap length (sym q) ∙ rw (length-map, counted-length)
 
 shown-long : (s n : ℕ) (z : Reading) (r : List ℕ) → shown s n z ≡ gives r → length r ≡ n
 shown-long s n (found cs) r e = row-long s n (λ i. getD cs i 0) r e

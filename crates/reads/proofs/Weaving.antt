@@ -29,7 +29,8 @@ use borrow.Author.Tests.{eq-eqb, leb-true}
 use Rattle.laws.specs.Elements.{find}
 use Rattle.laws.specs.Units.{free, width}
 use Rattle.laws.proofs.Finite.{upto, line, grid}
-use Rattle.laws.proofs.Elements.{alike-true, find-hit}
+use Rattle.laws.proofs.Elements.{alike-true, find-hit, stretch-long}
+use Rattle.laws.proofs.Spelling.{below-test}
 use Rattle.tables.specs.Bits.{spread, spaced, weave}
 use Rattle.tables.specs.Alphabet.{Alphabet, size, foundOf, rowsOf}
 use Rattle.tables.specs.Code39.{table42, chars39, alphabet39, rows39}
@@ -38,7 +39,7 @@ use Rattle.tables.specs.TwoOfFive.{table44, alphabetDigits, digitRows, industri
 use Rattle.reads.specs.declared.kinds.Unit.the-variants.{Industrial, Pair}
 use Rattle.reads.specs.Seen.{elementPlace}
 use Rattle.reads.specs.Held.{strided, codeOf, Character, NoRow, unitAt}
-use Rattle.reads.proofs.Packing.{alike-spread, strided-take, stretch-long, below, found-rows, unit-row, unit-none}
+use Rattle.reads.proofs.Packing.{alike-spread, strided-take, found-rows, unit-row, unit-none}
 use Rattle.reads.proofs.Widths.{wide}
 
 row-of : (k : List (List ℕ)) (ws : List ℕ) (c : ℕ) → find k ws ≡ c → c < length k → getD k c [] ≡ ws
@@ -50,13 +51,13 @@ pub record Part (n : ℕ) (a : Alphabet) (base m : ℕ) (k : List (List ℕ)) : 
   wide : width (free k) ≡ n
   count : length k ≡ m
   few : n ≤ 10
-  bits : below (2 ^ n) (take (size a) (a .codes)) ≡ true
+  bits : below-test (2 ^ n) (take (size a) (a .codes)) ≡ true
   ends : base + m ≤ length (rowsOf n a)
   there : (c : ℕ) → c < m → find k (getD (rowsOf n a) (base + c) []) ≡ c
   back : (c : ℕ) → c < m → find (rowsOf n a) (getD k c []) ≡ base + c
 
 module _ (n : ℕ) (a : Alphabet) (base m : ℕ) (k : List (List ℕ)) where
-  part : width (free k) ≡ n → length k ≡ m → leb n 10 ≡ true → below (2 ^ n) (take (size a) (a .codes)) ≡ true → leb (base + m) (length (rowsOf n a)) ≡ true
+  part : width (free k) ≡ n → length k ≡ m → leb n 10 ≡ true → below-test (2 ^ n) (take (size a) (a .codes)) ≡ true → leb (base + m) (length (rowsOf n a)) ≡ true
       → upto m (λ c. eqb (find k (getD (rowsOf n a) (base + c) [])) c) ≡ true → upto m (λ c. eqb (find (rowsOf n a) (getD k c [])) (base + c)) ≡ true
       → Part n a base m k
   part w l f b e t r = record {

@@ -50,8 +50,22 @@ fn fixed_at(strip: &[u8], at: usize, width: usize, code: u16) -> Sought
     requires { ⌜ (at + width ≤ length (now strip)) × ((width ≤ 9) × (code < 2 ^ width)) ⌝ }
     ensures { λ r. ⌜ r ≡ soughtIn (Fixed width code) (now (strip .entry)) at ⌝ }
 {
+    if width == 1 {
+        return element_at(strip, at, code);
+    }
     if pack::pack(strip, at, 1, width) == code {
         return passed(at + width);
+    }
+    nowhere()
+}
+
+// One element, narrow for 0 and wide for 1: as a parting space is.
+fn element_at(strip: &[u8], at: usize, code: u16) -> Sought
+    requires { ⌜ (at < length (now strip)) × (code < 2) ⌝ }
+    ensures { λ r. ⌜ r ≡ soughtIn (Fixed 1 code) (now (strip .entry)) at ⌝ }
+{
+    if strip[at] as u16 == 1 + 2 * code {
+        return passed(at + 1);
     }
     nowhere()
 }

@@ -12,13 +12,14 @@
 --
 -- Assumes nothing.
 use mathlib.Core.Path.{_≡_, refl, sym, ap, _∙_}
-use mathlib.Core.List.{List, [], _∷_, _++_, map, append-assoc, append-nil}
+use mathlib.Core.List.{List, [], _∷_, _++_, map, append-assoc, append-nil, map-append}
 use Prim.Native.Nat.{ℕ, zero, suc, _+_, _*_, _%_, _<_, _≤_}
 use native.Mathlib.Omega.{arith}
 use native.Mathlib.Nat.{add-zero, mul-suc, mul-zero, mul-le-mul-left, le-of-suc-le-suc, not-suc-le-zero}
 use native.Mathlib.Numerals.{add-one}
-use lib.ListN.{length, getD, take, drop, set, length-drop, length-set}
+use lib.ListN.{length, getD, take, drop, set, length-drop, length-map, length-set}
 use lib.Seq.{take-suc, take-suc-set, getD-take, getD-drop, length-take-le, take-take}
+use Rattle.laws.proofs.Elements.{stretch-long}
 use Rattle.tables.specs.Bits.{weave}
 use Rattle.units.specs.Room.{cut, unitsIn, Within, pairsIn}
 
@@ -27,21 +28,13 @@ more room front p w h e = rw (add-one p, take-suc-set room p w h, e)
 
 -- ---- a stretch
 
-map-snoc : (f : ℕ → ℕ) (xs : List ℕ) (x : ℕ) → map f (xs ++ (x ∷ [])) ≡ map f xs ++ (f x ∷ [])
-map-snoc f [] x = refl
-map-snoc f (y ∷ ys) x = ap (λ (zs : List ℕ). f y ∷ zs) (map-snoc f ys x)
-
-length-map : (f : ℕ → ℕ) (xs : List ℕ) → length (map f xs) ≡ length xs
-length-map f [] = refl
-length-map f (x ∷ xs) = ap suc (length-map f xs)
-
 pub cut-more : (t : List ℕ) (from j : ℕ) → from + j < length t → cut t from (j + 1) ≡ cut t from j ++ (getD t (from + j) 0 % 16 ∷ [])
 cut-more t from j h =
     rw (add-one j, take-suc (drop from t) j 0 (rw length-drop (omega arith)), getD-drop)
-    (map-snoc (λ b. b % 16) (take j (drop from t)) (getD t (from + j) 0))
+    (map-append (λ b. b % 16) (take j (drop from t)) (getD t (from + j) 0 ∷ []))
 
 pub cut-long : (t : List ℕ) (from j : ℕ) → from + j ≤ length t → length (cut t from j) ≡ j
-cut-long t from j h = length-map (λ b. b % 16) (take j (drop from t)) ∙ length-take-le j (drop from t) (rw length-drop (omega arith))
+cut-long t from j h = rw length-map (stretch-long t from j h)
 
 pub put-start : (room t : List ℕ) (at from : ℕ) → take (at + 0) room ≡ take at room ++ cut t from 0
 put-start room t at from = rw (add-zero at, append-nil)
@@ -62,9 +55,6 @@ room-left k i n h = rw (← mul-suc k i) (mul-le-mul-left k h)
 char-at : (codes : List ℕ) (first n i : ℕ) → i < n → getD (take n (drop first codes)) i 0 ≡ getD codes (first + i) 0
 char-at codes first n i h = getD-take n (drop first codes) i 0 h ∙ getD-drop first codes i 0
 
-stretch : (codes : List ℕ) (first n : ℕ) → first + n ≤ length codes → length (take n (drop first codes)) ≡ n
-stretch codes first n h = length-take-le n (drop first codes) (rw length-drop (omega arith))
-
 below-at : (long base k : ℕ) (cs : List ℕ) (i : ℕ) → Within long base k cs → i < length cs → base + k * getD cs i 0 + k ≤ long
 below-at long base k [] i w h = absurd (not-suc-le-zero h)
 below-at long base k (c ∷ cs) zero w h = w .0
@@ -74,7 +64,7 @@ pub row-ends : (codes : List ℕ) (long base k first n i : ℕ) → first + n �
     → base + k * getD codes (first + i) 0 + k ≤ long
 row-ends codes long base k first n i l h w =
     rw (char-at codes first n i h) at
-    (below-at long base k (take n (drop first codes)) i w (rw (stretch codes first n l) h))
+    (below-at long base k (take n (drop first codes)) i w (rw (stretch-long codes first n l) h))
 
 units-snoc : (t : List ℕ) (base k : ℕ) (cs : List ℕ) (c : ℕ) → unitsIn t base k (cs ++ (c ∷ [])) ≡ unitsIn t base k cs ++ cut t (base + k * c) k
 units-snoc t base k [] c = append-nil (cut t (base + k * c) k)
@@ -90,7 +80,7 @@ pub units-more : (room₀ room next t codes : List ℕ) (at p base k first n i :
 units-more room₀ room next t codes at p base k first n i l h q e f =
     let cs : List ℕ = take n (drop first codes) in
     let o : at + k * (i + 1) ≡ p + k = omega (arith, mul-suc k i, ap (λ (x : ℕ). k * x) (add-one i)) in
-    rw (o, f, q, e, add-one i, take-suc cs i 0 (rw (stretch codes first n l) h), units-snoc, char-at codes first n i h) (append-assoc (take at room₀) _ _)
+    rw (o, f, q, e, add-one i, take-suc cs i 0 (rw (stretch-long codes first n l) h), units-snoc, char-at codes first n i h) (append-assoc (take at room₀) _ _)
 
 pub units-end : (room₀ room t codes : List ℕ) (at base k first n i : ℕ) → n ≤ i → i ≤ n
     → take (at + k * i) room ≡ take at room₀ ++ unitsIn t base k (take i (take n (drop first codes)))
