@@ -4,6 +4,7 @@
 --   cut-more, cut-long    a stretch with one element more, and its length
 --   put-start, put-more   the loop over a stretch
 --   room-left, row-ends   room for one unit more; where the row of a character ends
+--   row-small     a character is no larger than the text of its row is long
 --   units-start, units-more, units-end    the loop over units
 --   pair-start, pair-more      the loop over a pair's elements
 --   both-end      where the rows of a pair's digits end
@@ -15,7 +16,7 @@ use mathlib.Core.Path.{_≡_, refl, sym, ap, _∙_}
 use mathlib.Core.List.{List, [], _∷_, _++_, map, append-assoc, append-nil, map-append}
 use Prim.Native.Nat.{ℕ, zero, suc, _+_, _*_, _%_, _<_, _≤_}
 use native.Mathlib.Omega.{arith}
-use native.Mathlib.Nat.{add-zero, mul-suc, mul-zero, mul-le-mul-left, le-of-suc-le-suc, not-suc-le-zero}
+use native.Mathlib.Nat.{add-zero, mul-suc, mul-zero, mul-le-mul-left, mul-le-mul-right, le-of-suc-le-suc, not-suc-le-zero}
 use native.Mathlib.Numerals.{add-one}
 use lib.ListN.{length, getD, take, drop, set, length-drop, length-map, length-set}
 use lib.Seq.{take-suc, take-suc-set, getD-take, getD-drop, length-take-le, take-take}
@@ -65,6 +66,10 @@ pub row-ends : (codes : List ℕ) (long base k first n i : ℕ) → first + n �
 row-ends codes long base k first n i l h w =
     rw (char-at codes first n i h) at
     (below-at long base k (take n (drop first codes)) i w (rw (stretch-long codes first n l) h))
+
+pub row-small : (codes : List ℕ) (long base k first n i : ℕ) → first + n ≤ length codes → i < n → 0 < k → Within long base k (take n (drop first codes))
+    → getD codes (first + i) 0 ≤ long
+row-small codes long base k first n i l h p w = omega (arith, row-ends codes long base k first n i l h w, mul-le-mul-right (getD codes (first + i) 0) p)
 
 units-snoc : (t : List ℕ) (base k : ℕ) (cs : List ℕ) (c : ℕ) → unitsIn t base k (cs ++ (c ∷ [])) ≡ unitsIn t base k cs ++ cut t (base + k * c) k
 units-snoc t base k [] c = append-nil (cut t (base + k * c) k)

@@ -2,7 +2,7 @@
 ghost use mathlib.Core.Path.{_≡_};
 ghost use mathlib.Core.Bool.{true};
 ghost use Prim.Native.Nat.{_-_, _<_, _≤_};
-ghost use lib.ListN.{take, drop};
+ghost use lib.ListN.{length, take, drop};
 ghost use Rattle.tables.specs.Alphabet.{size};
 ghost use Rattle.rows.specs.Symbologies.{symbologyOf};
 ghost use Rattle.units.specs.Laid.{counted, allAllowed, ready};
@@ -39,9 +39,9 @@ pub fn is_counted(symbology: u8, n: usize) -> bool
 }
 
 // Whether the characters from one index up to another have values from `low` up to below `high`.
-fn all_in(codes: [u8; 34], from: usize, to: usize, low: u8, high: u8) -> bool
-    requires { ⌜ (from ≤ to) × (to ≤ 34) ⌝ }
-    ensures { λ r. ⌜ r ≡ allIn low high (take (to - from) (drop from codes)) ⌝ }
+fn all_in(codes: &[u8; 34], from: usize, to: usize, low: u8, high: u8) -> bool
+    requires { ⌜ (length (now codes) ≡ 34) × ((from ≤ to) × (to ≤ 34)) ⌝ }
+    ensures { λ r. ⌜ r ≡ allIn low high (take (to - from) (drop from (now (codes .entry)))) ⌝ }
 {
     let mut i = from;
     while i < to {
@@ -57,9 +57,9 @@ fn all_in(codes: [u8; 34], from: usize, to: usize, low: u8, high: u8) -> bool
 }
 
 // Codabar: letters at the ends, the other characters inside.
-fn is_lettered(codes: [u8; 34], n: usize) -> bool
-    requires { ⌜ (2 ≤ n) × (n ≤ 34) ⌝ }
-    ensures { λ r. ⌜ r ≡ allAllowed 3 true (take n codes) ⌝ }
+fn is_lettered(codes: &[u8; 34], n: usize) -> bool
+    requires { ⌜ (length (now codes) ≡ 34) × ((2 ≤ n) × (n ≤ 34)) ⌝ }
+    ensures { λ r. ⌜ r ≡ allAllowed 3 true (take n (now (codes .entry))) ⌝ }
 {
     if !all_in(codes, 0, 1, 16, 20) {
         return false;
@@ -82,9 +82,9 @@ fn size_of(symbology: u8) -> u8
 }
 
 // Whether the first n codes are a row of the symbology.
-pub fn is_ready(symbology: u8, codes: [u8; 34], n: usize) -> bool
-    requires { ⌜ n ≤ 34 ⌝ }
-    ensures { λ r. ⌜ r ≡ ready symbology (take n codes) ⌝ }
+pub fn is_ready(symbology: u8, codes: &[u8; 34], n: usize) -> bool
+    requires { ⌜ (length (now codes) ≡ 34) × (n ≤ 34) ⌝ }
+    ensures { λ r. ⌜ r ≡ ready symbology (take n (now (codes .entry))) ⌝ }
 {
     if !is_counted(symbology, n) {
         return false;

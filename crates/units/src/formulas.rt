@@ -3,7 +3,7 @@ ghost use mathlib.Core.Path.{_≡_};
 ghost use mathlib.Core.Bool.{true};
 ghost use Prim.Native.Nat.{_≤_};
 ghost use lib.Dec.{ltb};
-ghost use lib.ListN.{take};
+ghost use lib.ListN.{length, take};
 ghost use Rattle.laws.specs.Search.{pick};
 ghost use Rattle.units.specs.Totals.{ofCodabar, elementsOf, modulesOf};
 ghost use Rattle.units.specs.Laid.{counted, ready};
@@ -32,9 +32,9 @@ fn of_class(value: u8) -> usize
 }
 
 // The modules of Codabar's characters, each with the space behind it.
-fn of_codabar(codes: [u8; 34], n: usize) -> usize
-    requires { ⌜ n ≤ 34 ⌝ }
-    ensures { λ r. ⌜ r ≡ ofCodabar (take n codes) ⌝ }
+fn of_codabar(codes: &[u8; 34], n: usize) -> usize
+    requires { ⌜ (length (now codes) ≡ 34) × (n ≤ 34) ⌝ }
+    ensures { λ r. ⌜ r ≡ ofCodabar (take n (now (codes .entry))) ⌝ }
 {
     let mut sum = 0;
     let mut i = 0;
@@ -46,9 +46,9 @@ fn of_codabar(codes: [u8; 34], n: usize) -> usize
 }
 
 // The modules of a row.
-pub fn modules_of(symbology: u8, codes: [u8; 34], n: usize) -> usize
-    requires { ⌜ (n ≤ 34) × (ready symbology (take n codes) ≡ true) ⌝ }
-    ensures { λ r. ⌜ r ≡ modulesOf symbology (take n codes) ⌝ }
+pub fn modules_of(symbology: u8, codes: &[u8; 34], n: usize) -> usize
+    requires { ⌜ (length (now codes) ≡ 34) × ((n ≤ 34) × (ready symbology (take n (now codes)) ≡ true)) ⌝ }
+    ensures { λ r. ⌜ r ≡ modulesOf symbology (take n (now (codes .entry))) ⌝ }
 {
     match symbology {
         1 | 2 => 16 * (n + 2) - 1,

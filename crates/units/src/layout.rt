@@ -22,12 +22,12 @@ pub struct Ends {
 }
 
 // A start, units of k elements, their parting space among them, a stop.
-fn parted(room: &mut [u8; 339], text: &[u8], k: usize, ends: Ends, codes: [u8; 34], n: usize)
-    requires { ⌜ (length (now room) ≡ 339) × ((n ≤ 34) × (length (now text) ≤ 440)) ⌝ }
+fn parted(room: &mut [u8; 339], text: &[u8], k: usize, ends: Ends, codes: &[u8; 34], n: usize)
+    requires { ⌜ (length (now room) ≡ 339) × ((length (now codes) ≡ 34) × ((n ≤ 34) × (length (now text) ≤ 440))) ⌝ }
     requires { ⌜ (ends .long + k * n + ends .short ≤ 339) × ((ends .start + ends .long ≤ length (now text)) × (ends .stop + ends .short ≤ length (now text))) ⌝ }
-    requires { ⌜ Within (length (now text)) 0 k (take n codes) ⌝ }
+    requires { ⌜ (0 < k) × Within (length (now text)) 0 k (take n (now codes)) ⌝ }
     ensures { λ _. ⌜ length (now (room .exit)) ≡ 339 ⌝ }
-    ensures { λ _. ⌜ take (ends .long + k * n + ends .short) (now (room .exit)) ≡ partedIn k ends (take n codes) (now (text .entry)) ⌝ }
+    ensures { λ _. ⌜ take (ends .long + k * n + ends .short) (now (room .exit)) ≡ partedIn k ends (take n (now (codes .entry))) (now (text .entry)) ⌝ }
 {
     let a = room::put(room, ElementPlace(0), text, ends.start, ends.long);
     let b = room::put_units(room, a, text, 0, k, codes, 0, n);
@@ -35,10 +35,10 @@ fn parted(room: &mut [u8; 339], text: &[u8], k: usize, ends: Ends, codes: [u8; 3
 }
 
 // A star, the characters, a star, with a narrow space between each two.
-fn code39(room: &mut [u8; 339], codes: [u8; 34], n: usize)
-    requires { ⌜ (length (now room) ≡ 339) × ((n ≤ 34) × (ready 1 (take n codes) ≡ true)) ⌝ }
+fn code39(room: &mut [u8; 339], codes: &[u8; 34], n: usize)
+    requires { ⌜ (length (now room) ≡ 339) × ((length (now codes) ≡ 34) × ((n ≤ 34) × (ready 1 (take n (now codes)) ≡ true))) ⌝ }
     ensures { λ _. ⌜ length (now (room .exit)) ≡ 339 ⌝ }
-    ensures { λ _. ⌜ take (elementsOf 1 n) (now (room .exit)) ≡ stripOf 1 (take n codes) ⌝ }
+    ensures { λ _. ⌜ take (elementsOf 1 n) (now (room .exit)) ≡ stripOf 1 (take n (now (codes .entry))) ⌝ }
 {
     let text = widths::code39();
     let ends = Ends {
@@ -51,10 +51,10 @@ fn code39(room: &mut [u8; 339], codes: [u8; 34], n: usize)
 }
 
 // The characters, which start and stop themselves, with a narrow space between each two.
-fn codabar(room: &mut [u8; 339], codes: [u8; 34], n: usize)
-    requires { ⌜ (length (now room) ≡ 339) × ((n ≤ 34) × (ready 3 (take n codes) ≡ true)) ⌝ }
+fn codabar(room: &mut [u8; 339], codes: &[u8; 34], n: usize)
+    requires { ⌜ (length (now room) ≡ 339) × ((length (now codes) ≡ 34) × ((n ≤ 34) × (ready 3 (take n (now codes)) ≡ true))) ⌝ }
     ensures { λ _. ⌜ length (now (room .exit)) ≡ 339 ⌝ }
-    ensures { λ _. ⌜ take (elementsOf 3 n) (now (room .exit)) ≡ stripOf 3 (take n codes) ⌝ }
+    ensures { λ _. ⌜ take (elementsOf 3 n) (now (room .exit)) ≡ stripOf 3 (take n (now (codes .entry))) ⌝ }
 {
     let text = widths::codabar();
     let last = codes[n - 1] as usize;
@@ -63,10 +63,10 @@ fn codabar(room: &mut [u8; 339], codes: [u8; 34], n: usize)
 }
 
 // The start, the digits, the stop, with a narrow space between each two.
-fn industrial(room: &mut [u8; 339], codes: [u8; 34], n: usize)
-    requires { ⌜ (length (now room) ≡ 339) × ((n ≤ 34) × (ready 4 (take n codes) ≡ true)) ⌝ }
+fn industrial(room: &mut [u8; 339], codes: &[u8; 34], n: usize)
+    requires { ⌜ (length (now room) ≡ 339) × ((length (now codes) ≡ 34) × ((n ≤ 34) × (ready 4 (take n (now codes)) ≡ true))) ⌝ }
     ensures { λ _. ⌜ length (now (room .exit)) ≡ 339 ⌝ }
-    ensures { λ _. ⌜ take (elementsOf 4 n) (now (room .exit)) ≡ stripOf 4 (take n codes) ⌝ }
+    ensures { λ _. ⌜ take (elementsOf 4 n) (now (room .exit)) ≡ stripOf 4 (take n (now (codes .entry))) ⌝ }
 {
     let text = widths::industrial();
     let ends = Ends {
@@ -79,10 +79,10 @@ fn industrial(room: &mut [u8; 339], codes: [u8; 34], n: usize)
 }
 
 // The start, the pairs, the stop.
-fn interleaved(room: &mut [u8; 339], codes: [u8; 34], n: usize)
-    requires { ⌜ (length (now room) ≡ 339) × ((n ≤ 34) × (ready 5 (take n codes) ≡ true)) ⌝ }
+fn interleaved(room: &mut [u8; 339], codes: &[u8; 34], n: usize)
+    requires { ⌜ (length (now room) ≡ 339) × ((length (now codes) ≡ 34) × ((n ≤ 34) × (ready 5 (take n (now codes)) ≡ true))) ⌝ }
     ensures { λ _. ⌜ length (now (room .exit)) ≡ 339 ⌝ }
-    ensures { λ _. ⌜ take (elementsOf 5 n) (now (room .exit)) ≡ stripOf 5 (take n codes) ⌝ }
+    ensures { λ _. ⌜ take (elementsOf 5 n) (now (room .exit)) ≡ stripOf 5 (take n (now (codes .entry))) ⌝ }
 {
     let text = widths::interleaved();
     let a = room::put(room, ElementPlace(0), &text, 50, 4);
@@ -91,10 +91,10 @@ fn interleaved(room: &mut [u8; 339], codes: [u8; 34], n: usize)
 }
 
 // The start, the digits, the stop, with a narrow space between each two.
-fn matrix(room: &mut [u8; 339], codes: [u8; 34], n: usize)
-    requires { ⌜ (length (now room) ≡ 339) × ((n ≤ 34) × (ready 6 (take n codes) ≡ true)) ⌝ }
+fn matrix(room: &mut [u8; 339], codes: &[u8; 34], n: usize)
+    requires { ⌜ (length (now room) ≡ 339) × ((length (now codes) ≡ 34) × ((n ≤ 34) × (ready 6 (take n (now codes)) ≡ true))) ⌝ }
     ensures { λ _. ⌜ length (now (room .exit)) ≡ 339 ⌝ }
-    ensures { λ _. ⌜ take (elementsOf 6 n) (now (room .exit)) ≡ stripOf 6 (take n codes) ⌝ }
+    ensures { λ _. ⌜ take (elementsOf 6 n) (now (room .exit)) ≡ stripOf 6 (take n (now (codes .entry))) ⌝ }
 {
     let text = widths::matrix();
     let ends = Ends {
@@ -118,9 +118,9 @@ fn side(parities: u16, i: usize) -> u8
 }
 
 // The twelve units that EAN-13 draws: its first digit stands in the sets of the six left ones.
-fn sides_of(codes: [u8; 34]) -> [u8; 34]
-    requires { ⌜ Below 10 (take 13 codes) ⌝ }
-    ensures { λ r. ⌜ take 12 r ≡ sided (take 13 codes) ⌝ }
+fn sides_of(codes: &[u8; 34]) -> [u8; 34]
+    requires { ⌜ (length (now codes) ≡ 34) × Below 10 (take 13 (now codes)) ⌝ }
+    ensures { λ r. ⌜ take 12 r ≡ sided (take 13 (now (codes .entry))) ⌝ }
 {
     let parities = tables::ean::parities_of(codes[0]);
     let mut sides = [0; 34];
@@ -133,11 +133,11 @@ fn sides_of(codes: [u8; 34]) -> [u8; 34]
 }
 
 // A guard, half the units, the centre.
-fn left(room: &mut [u8; 339], text: &[u8], codes: [u8; 34], half: usize) -> ElementPlace
-    requires { ⌜ (length (now room) ≡ 339) × ((length (now text) ≡ 128) × ((half ≤ 6) × Below 20 (take half codes))) ⌝ }
+fn left(room: &mut [u8; 339], text: &[u8], codes: &[u8; 34], half: usize) -> ElementPlace
+    requires { ⌜ (length (now room) ≡ 339) × ((length (now codes) ≡ 34) × ((length (now text) ≡ 128) × ((half ≤ 6) × Below 20 (take half (now codes))))) ⌝ }
     ensures { λ r. ⌜ r .0 ≡ 4 * half + 8 ⌝ }
     ensures { λ _. ⌜ length (now (room .exit)) ≡ 339 ⌝ }
-    ensures { λ _. ⌜ take (4 * half + 8) (now (room .exit)) ≡ leftIn (now (text .entry)) (take half codes) ⌝ }
+    ensures { λ _. ⌜ take (4 * half + 8) (now (room .exit)) ≡ leftIn (now (text .entry)) (take half (now (codes .entry))) ⌝ }
 {
     let a = room::put(room, ElementPlace(0), text, 120, 3);
     let b = room::put_units(room, a, text, 0, 4, codes, 0, half);
@@ -145,21 +145,21 @@ fn left(room: &mut [u8; 339], text: &[u8], codes: [u8; 34], half: usize) -> Elem
 }
 
 // The other half from the right set, a guard.
-fn right(room: &mut [u8; 339], at: ElementPlace, text: &[u8], codes: [u8; 34], half: usize)
-    requires { ⌜ (length (now room) ≡ 339) × ((length (now text) ≡ 128) × ((half ≤ 6) × Below 10 (take half (drop half codes)))) ⌝ }
+fn right(room: &mut [u8; 339], at: ElementPlace, text: &[u8], codes: &[u8; 34], half: usize)
+    requires { ⌜ (length (now room) ≡ 339) × ((length (now codes) ≡ 34) × ((length (now text) ≡ 128) × ((half ≤ 6) × Below 10 (take half (drop half (now codes)))))) ⌝ }
     requires { ⌜ at .0 ≤ 32 ⌝ }
     ensures { λ _. ⌜ length (now (room .exit)) ≡ 339 ⌝ }
-    ensures { λ _. ⌜ take (at .0 + (4 * half + 3)) (now (room .exit)) ≡ take (at .0) (now (room .entry)) ++ rightIn (now (text .entry)) (take half (drop half codes)) ⌝ }
+    ensures { λ _. ⌜ take (at .0 + (4 * half + 3)) (now (room .exit)) ≡ take (at .0) (now (room .entry)) ++ rightIn (now (text .entry)) (take half (drop half (now (codes .entry)))) ⌝ }
 {
     let a = room::put_units(room, at, text, 80, 4, codes, half, half);
     room::put(room, a, text, 120, 3);
 }
 
 // The units in two halves, between guards and on both sides of the centre.
-fn halves(room: &mut [u8; 339], codes: [u8; 34], half: usize)
-    requires { ⌜ (length (now room) ≡ 339) × ((half ≤ 6) × ((Below 20 (take half codes)) × (Below 10 (take half (drop half codes))))) ⌝ }
+fn halves(room: &mut [u8; 339], codes: &[u8; 34], half: usize)
+    requires { ⌜ (length (now room) ≡ 339) × ((length (now codes) ≡ 34) × ((half ≤ 6) × ((Below 20 (take half (now codes))) × (Below 10 (take half (drop half (now codes))))))) ⌝ }
     ensures { λ _. ⌜ length (now (room .exit)) ≡ 339 ⌝ }
-    ensures { λ _. ⌜ take (8 * half + 11) (now (room .exit)) ≡ leftIn textEan (take half codes) ++ rightIn textEan (take half (drop half codes)) ⌝ }
+    ensures { λ _. ⌜ take (8 * half + 11) (now (room .exit)) ≡ leftIn textEan (take half (now (codes .entry))) ++ rightIn textEan (take half (drop half (now (codes .entry)))) ⌝ }
 {
     let text = widths::ean();
     let a = left(room, &text, codes, half);
@@ -167,10 +167,10 @@ fn halves(room: &mut [u8; 339], codes: [u8; 34], half: usize)
 }
 
 // The strip of n characters.
-pub fn build(room: &mut [u8; 339], symbology: u8, codes: [u8; 34], n: usize)
-    requires { ⌜ (length (now room) ≡ 339) × ((n ≤ 34) × (ready symbology (take n codes) ≡ true)) ⌝ }
+pub fn build(room: &mut [u8; 339], symbology: u8, codes: &[u8; 34], n: usize)
+    requires { ⌜ (length (now room) ≡ 339) × ((length (now codes) ≡ 34) × ((n ≤ 34) × (ready symbology (take n (now codes)) ≡ true))) ⌝ }
     ensures { λ _. ⌜ length (now (room .exit)) ≡ 339 ⌝ }
-    ensures { λ _. ⌜ take (elementsOf symbology n) (now (room .exit)) ≡ stripOf symbology (take n codes) ⌝ }
+    ensures { λ _. ⌜ take (elementsOf symbology n) (now (room .exit)) ≡ stripOf symbology (take n (now (codes .entry))) ⌝ }
 {
     match symbology {
         1 | 2 => code39(room, codes, n),
@@ -178,7 +178,10 @@ pub fn build(room: &mut [u8; 339], symbology: u8, codes: [u8; 34], n: usize)
         4 => industrial(room, codes, n),
         5 => interleaved(room, codes, n),
         6 => matrix(room, codes, n),
-        7 => halves(room, sides_of(codes), 6),
+        7 => {
+            let sides = sides_of(codes);
+            halves(room, &sides, 6)
+        }
         8 => halves(room, codes, 4),
         _ => halves(room, codes, 6),
     }

@@ -37,7 +37,7 @@ pub fn draw_row(symbology: u8, row: Row, out: &mut [u8]) -> Laid
         return Laid::NoRow;
     }
     let codes = row.codes;
-    if !check::is_ready(symbology, codes, n) {
+    if !check::is_ready(symbology, &codes, n) {
         return Laid::NoRow;
     }
     let count = formulas::elements_of(symbology, n);
@@ -45,10 +45,10 @@ pub fn draw_row(symbology: u8, row: Row, out: &mut [u8]) -> Laid
         return Laid::Short(Elements(count));
     }
     let mut room = [0; 339];
-    layout::build(&mut room, symbology, codes, n);
+    layout::build(&mut room, symbology, &codes, n);
     bytes::copy(&room[..count], out);
     Laid::Strip(
         Elements(count),
-        Modules(formulas::modules_of(symbology, codes, n)),
+        Modules(formulas::modules_of(symbology, &codes, n)),
     )
 }

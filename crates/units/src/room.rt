@@ -37,15 +37,15 @@ pub fn put_units(
     text: &[u8],
     base: usize,
     k: usize,
-    codes: [u8; 34],
+    codes: &[u8; 34],
     first: usize,
     n: usize,
 ) -> ElementPlace
-    requires { ⌜ (length (now room) ≡ 339) × ((at .0 + k * n ≤ 339) × ((first + n ≤ 34) × (length (now text) ≤ 440))) ⌝ }
-    requires { ⌜ Within (length (now text)) base k (take n (drop first codes)) ⌝ }
+    requires { ⌜ (length (now room) ≡ 339) × ((length (now codes) ≡ 34) × ((at .0 + k * n ≤ 339) × ((first + n ≤ 34) × (length (now text) ≤ 440)))) ⌝ }
+    requires { ⌜ (0 < k) × Within (length (now text)) base k (take n (drop first (now codes))) ⌝ }
     ensures { λ r. ⌜ r .0 ≡ at .0 + k * n ⌝ }
     ensures { λ _. ⌜ length (now (room .exit)) ≡ 339 ⌝ }
-    ensures { λ _. ⌜ take (at .0 + k * n) (now (room .exit)) ≡ take (at .0) (now (room .entry)) ++ unitsIn (now (text .entry)) base k (take n (drop first codes)) ⌝ }
+    ensures { λ _. ⌜ take (at .0 + k * n) (now (room .exit)) ≡ take (at .0) (now (room .entry)) ++ unitsIn (now (text .entry)) base k (take n (drop first (now (codes .entry)))) ⌝ }
 {
     let mut next = at;
     let mut i = 0;
@@ -85,14 +85,14 @@ pub fn put_pairs(
     room: &mut [u8; 339],
     at: ElementPlace,
     text: &[u8],
-    codes: [u8; 34],
+    codes: &[u8; 34],
     n: usize,
 ) -> ElementPlace
-    requires { ⌜ (length (now room) ≡ 339) × ((at .0 + 10 * n ≤ 339) × ((2 * n ≤ 34) × (length (now text) ≤ 440))) ⌝ }
-    requires { ⌜ Within (length (now text)) 0 5 (take (2 * n) codes) ⌝ }
+    requires { ⌜ (length (now room) ≡ 339) × ((length (now codes) ≡ 34) × ((at .0 + 10 * n ≤ 339) × ((2 * n ≤ 34) × (length (now text) ≤ 440)))) ⌝ }
+    requires { ⌜ Within (length (now text)) 0 5 (take (2 * n) (now codes)) ⌝ }
     ensures { λ r. ⌜ r .0 ≡ at .0 + 10 * n ⌝ }
     ensures { λ _. ⌜ length (now (room .exit)) ≡ 339 ⌝ }
-    ensures { λ _. ⌜ take (at .0 + 10 * n) (now (room .exit)) ≡ take (at .0) (now (room .entry)) ++ pairsIn (now (text .entry)) (take (2 * n) codes) ⌝ }
+    ensures { λ _. ⌜ take (at .0 + 10 * n) (now (room .exit)) ≡ take (at .0) (now (room .entry)) ++ pairsIn (now (text .entry)) (take (2 * n) (now (codes .entry))) ⌝ }
 {
     let mut next = at;
     let mut i = 0;

@@ -14,21 +14,21 @@ returns c = too-many (c .before .before .args .symbology) (c .before .before .ar
 
 returns-2 : tie.Need-returns-2
 returns-2 c =
-    let a = c .before .before .before .before .before .args in
-    not-ready (a .symbology) (a .row) (a .out .now) (c .before .before .before .if1 .left) (search needs) (c .before .is-ready .result) (c .before .is-ready .ensures) (c .if2 .taken)
+    let a = c .before .before .before .before .before .before .args in
+    not-ready (a .symbology) (a .row) (a .out .now) (c .before .before .before .before .if1 .left) (search needs) (c .before .is-ready .result) (c .before .is-ready .ensures) (c .if2 .taken)
 
 elements-of-requires : tie.Need-elements-of-requires
 elements-of-requires c κs =
-    let a = c .before .before .before .before .before .args in
-    let h = c .before .before .before .if1 .left in
+    let a = c .before .before .before .before .before .before .args in
+    let h = c .before .before .before .before .if1 .left in
     let places : length (a .row .codes) ≡ 34 = search needs in
     (h, is-counted (a .symbology) (a .row) (a .out .now) h places (is-ready (a .symbology) (a .row) (a .out .now) h places (c .before .is-ready .result) (c .before .is-ready .ensures) (c .if2 .left)))
 
 returns-3 : tie.Need-returns-3
 returns-3 c =
     let b = c .before .before .before in
-    let a = b .before .before .before .before .args in
-    let h = b .before .before .if1 .left in
+    let a = b .before .before .before .before .before .args in
+    let h = b .before .before .before .if1 .left in
     let places : length (a .row .codes) ≡ 34 = search needs in
     too-short (a .symbology) (a .row) (a .out .now) h places
     (is-ready (a .symbology) (a .row) (a .out .now) h places (b .is-ready .result) (b .is-ready .ensures) (c .before .before .if2 .left))
@@ -36,61 +36,61 @@ returns-3 c =
 
 build-requires : tie.Need-build-requires
 build-requires c κs =
-    let b = c .before .before .before .before in
-    let a = b .before .before .before .before .args in
-    let h = b .before .before .if1 .left in
-    (refl, (h, is-ready (a .symbology) (a .row) (a .out .now) h (search needs) (b .is-ready .result) (b .is-ready .ensures) (c .before .before .before .if2 .left)))
+    let b = c .before .before .before .before .before in
+    let a = b .before .before .before .before .before .args in
+    let h = b .before .before .before .if1 .left in
+    (refl, (search needs, (h, is-ready (a .symbology) (a .row) (a .out .now) h (search needs) (b .is-ready .result) (b .is-ready .ensures) (c .before .before .before .before .if2 .left))))
 
 array-share-prefix-room : tie.Need-array-share-prefix-room
 array-share-prefix-room c =
-    let b = c .before .before .before .before .before in
-    let a = b .before .before .before .before .args in
-    let h = b .before .before .if1 .left in
+    let b = c .before .before .before .before .before .before in
+    let a = b .before .before .before .before .before .args in
+    let h = b .before .before .before .if1 .left in
     let places : length (a .row .codes) ≡ 34 = search needs in
     omega (
       arith,
       c .build .ensures .0,
-      c .before .before .before .elements-of .ensures,
+      c .before .before .before .before .elements-of .ensures,
       is-few (a .symbology) (a .row) (a .out .now) h places
-          (is-ready (a .symbology) (a .row) (a .out .now) h places (b .is-ready .result) (b .is-ready .ensures) (c .before .before .before .before .if2 .left)),
+          (is-ready (a .symbology) (a .row) (a .out .now) h places (b .is-ready .result) (b .is-ready .ensures) (c .before .before .before .before .before .if2 .left)),
     )
 
 slice-aggregate-copy : tie.Need-slice-aggregate-copy
 slice-aggregate-copy c =
-    let b = c .before .before .before .before .before .before in
-    let a = b .before .before .before .before .args in
-    let h = b .before .before .if1 .left in
+    let b = c .before .before .before .before .before .before .before in
+    let a = b .before .before .before .before .before .args in
+    let h = b .before .before .before .if1 .left in
     let places : length (a .row .codes) ≡ 34 = search needs in
     sym (length-take-le _ (c .before .build .last .0) (omega (
       arith,
       c .before .build .ensures .0,
-      c .before .before .before .before .elements-of .ensures,
+      c .before .before .before .before .before .elements-of .ensures,
       is-few (a .symbology) (a .row) (a .out .now) h places
-          (is-ready (a .symbology) (a .row) (a .out .now) h places (b .is-ready .result) (b .is-ready .ensures) (c .before .before .before .before .before .if2 .left)),
+          (is-ready (a .symbology) (a .row) (a .out .now) h places (b .is-ready .result) (b .is-ready .ensures) (c .before .before .before .before .before .before .if2 .left)),
     )))
 
 copy-requires : tie.Need-copy-requires
-copy-requires c κs = rw length-take (omega (arith, c .before .before .before .before .if3 .left))
+copy-requires c κs = rw length-take (omega (arith, c .before .before .before .before .before .if3 .left))
 
 modules-of-requires : tie.Need-modules-of-requires
 modules-of-requires c κs =
-    let b = c .before .before .before .before .before .before .before .before .before .before in
-    let a = b .before .before .before .before .args in
-    let h = b .before .before .if1 .left in
-    (h, is-ready (a .symbology) (a .row) (a .out .now) h (search needs) (b .is-ready .result) (b .is-ready .ensures) (c .before .before .before .before .before .before .before .before .before .if2 .left))
+    let b = c .before .before .before .before .before .before .before .before .before .before .before .before in
+    let a = b .before .before .before .before .before .args in
+    let h = b .before .before .before .if1 .left in
+    (search needs, (h, is-ready (a .symbology) (a .row) (a .out .now) h (search needs) (b .is-ready .result) (b .is-ready .ensures) (c .before .before .before .before .before .before .before .before .before .before .before .if2 .left)))
 
 returns-4 : tie.Need-returns-4
 returns-4 c =
-    let b = c .before .before .before .before .before .before .before .before .before .before .before in
-    let a = b .before .before .before .before .args in
-    let h = b .before .before .if1 .left in
-    let n = c .before .before .before .before .before .before .before .before .before .elements-of in
-    let room = c .before .before .before .before .before .before .build in
+    let b = c .before .before .before .before .before .before .before .before .before .before .before .before .before in
+    let a = b .before .before .before .before .before .args in
+    let h = b .before .before .before .if1 .left in
+    let n = c .before .before .before .before .before .before .before .before .before .before .before .elements-of in
+    let room = c .before .before .before .before .before .before .before .build in
     let places : length (a .row .codes) ≡ 34 = search needs in
     laid (a .symbology) (a .row) (a .out .now) h places
-    (is-ready (a .symbology) (a .row) (a .out .now) h places (b .is-ready .result) (b .is-ready .ensures) (c .before .before .before .before .before .before .before .before .before .before .if2 .left))
-    (n .result) (n .ensures) (room .last .0) (c .before .before .before .copy .last .1 .0) (c .modules-of .result) (c .before .before .before .before .before .before .before .before .if3 .left)
-    (c .modules-of .ensures) (room .ensures .0) (room .ensures .1) (c .before .before .before .copy .ensures .1)
+    (is-ready (a .symbology) (a .row) (a .out .now) h places (b .is-ready .result) (b .is-ready .ensures) (c .before .before .before .before .before .before .before .before .before .before .before .before .if2 .left))
+    (n .result) (n .ensures) (room .last .0) (c .before .before .before .before .copy .last .1 .0) (c .modules-of .result) (c .before .before .before .before .before .before .before .before .before .before .if3 .left)
+    (c .modules-of .ensures) (room .ensures .0) (room .ensures .1) (c .before .before .before .before .copy .ensures .1)
 
 pub draw-row-spec : {M : Type 1} → statement M
 draw-row-spec =

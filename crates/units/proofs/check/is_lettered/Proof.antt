@@ -1,8 +1,7 @@
 -- `is_lettered`: a row is its first character, the inner ones and its last, and each part is asked for by one call.
 -- Assumes nothing.
-use mathlib.Core.Path.{_≡_, sym, _∙_}
+use mathlib.Core.Path.{sym, _∙_}
 use native.Mathlib.Omega.{arith}
-use lib.ListN.{length}
 use borrow.Author.Needs.{needs}
 use Rattle.units.proofs.Passes.{no-first, past-first, lettered-at}
 use Rattle.units.proofs.check.is_lettered.Statement.{statement}
@@ -11,15 +10,13 @@ use Rattle.units.proofs.check.is_lettered.Tie as tie
 returns : tie.Need-returns
 returns c =
     let a = c .before .before .args in
-    let long : length (a .codes) ≡ 34 = search needs in
-    no-first _ _ _ _ (lettered-at (a .codes) (a .n) (omega arith) (omega arith)) (c .before .all-in .ensures) (c .if1 .taken)
+    no-first _ _ _ _ (lettered-at (a .codes .now) (a .n) (omega arith) (omega arith)) (c .before .all-in .ensures) (c .if1 .taken)
 
 returns-2 : tie.Need-returns-2
 returns-2 c =
     let d = c .before .before .before in
     let a = d .before .args in
-    let long : length (a .codes) ≡ 34 = search needs in
-    no-first _ _ _ _ (past-first _ _ _ _ (lettered-at (a .codes) (a .n) (omega arith) (omega arith)) (d .all-in .ensures) (c .before .before .if1 .left))
+    no-first _ _ _ _ (past-first _ _ _ _ (lettered-at (a .codes .now) (a .n) (omega arith) (omega arith)) (d .all-in .ensures) (c .before .before .if1 .left))
     (c .before .all-in2 .ensures)
     (c .if2 .taken)
 
@@ -27,10 +24,9 @@ returns-3 : tie.Need-returns-3
 returns-3 c =
     let d = c .before .before .before .before in
     let a = d .before .args in
-    let long : length (a .codes) ≡ 34 = search needs in
     c .all-in3 .ensures
     ∙ sym
-    (past-first _ _ _ _ (past-first _ _ _ _ (lettered-at (a .codes) (a .n) (omega arith) (omega arith)) (d .all-in .ensures) (c .before .before .before .if1 .left))
+    (past-first _ _ _ _ (past-first _ _ _ _ (lettered-at (a .codes .now) (a .n) (omega arith) (omega arith)) (d .all-in .ensures) (c .before .before .before .if1 .left))
     (c .before .before .all-in2 .ensures)
     (c .before .if2 .left))
 

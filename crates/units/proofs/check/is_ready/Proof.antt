@@ -4,7 +4,7 @@ use mathlib.Core.Path.{_≡_, sym, ap, _∙_}
 use mathlib.Core.Bool.{true}
 use Prim.Native.Nat.{ℕ, _≤_}
 use native.Mathlib.Omega.{arith}
-use lib.ListN.{length, take}
+use lib.ListN.{take}
 use borrow.Author.Needs.{needs}
 use borrow.Author.Tests.{not-false}
 use Rattle.units.specs.Laid.{counted, allAllowed}
@@ -16,8 +16,7 @@ use Rattle.units.proofs.check.is_ready.Tie as tie
 returns : tie.Need-returns
 returns c =
     let a = c .before .before .args in
-    let long : length (a .codes) ≡ 34 = search needs in
-    no-first _ _ _ _ (ready-by (a .symbology) (a .codes) (a .n) (omega arith)) (c .before .is-counted .ensures) (c .if1 .taken)
+    no-first _ _ _ _ (ready-by (a .symbology) (a .codes .now) (a .n) (omega arith)) (c .before .is-counted .ensures) (c .if1 .taken)
 
 is-lettered-requires : tie.Need-is-lettered-requires
 is-lettered-requires c κs =
@@ -30,18 +29,16 @@ returns-2 : tie.Need-returns-2
 returns-2 c =
     let d = c .before .before .before in
     let a = d .before .args in
-    let long : length (a .codes) ≡ 34 = search needs in
     c .is-lettered .ensures
-    ∙ ap (λ (s : ℕ). allAllowed s true (take (a .n) (a .codes))) (sym (c .before .if2 .taken))
-    ∙ ready-rest (a .symbology) (a .codes) (a .n) _ (omega arith) (d .is-counted .ensures) (c .before .before .if1 .left)
+    ∙ ap (λ (s : ℕ). allAllowed s true (take (a .n) (a .codes .now))) (sym (c .before .if2 .taken))
+    ∙ ready-rest (a .symbology) (a .codes .now) (a .n) _ (omega arith) (d .is-counted .ensures) (c .before .before .if1 .left)
 
 returns-3 : tie.Need-returns-3
 returns-3 c =
     let d = c .before .before .before .before in
     let a = d .before .args in
-    let long : length (a .codes) ≡ 34 = search needs in
-    in-set (a .symbology) (a .codes) (a .n) _ _ (c .before .before .if2 .left) (c .before .size-of .ensures) (c .all-in .ensures)
-    ∙ ready-rest (a .symbology) (a .codes) (a .n) _ (omega arith) (d .is-counted .ensures) (c .before .before .before .if1 .left)
+    in-set (a .symbology) (a .codes .now) (a .n) _ _ (c .before .before .if2 .left) (c .before .size-of .ensures) (c .all-in .ensures)
+    ∙ ready-rest (a .symbology) (a .codes .now) (a .n) _ (omega arith) (d .is-counted .ensures) (c .before .before .before .if1 .left)
 
 pub is-ready-spec : {M : Type 1} → statement M
 is-ready-spec =

@@ -18,8 +18,7 @@ use Rattle.units.proofs.formulas.modules_of.Tie as tie
 sub-result : tie.Need-sub-result
 sub-result c =
     let a = c .before .before .args in
-    let long : length (a .codes) ≡ 34 = search needs in
-    omega (arith, codabar-some (a .codes) (a .n) (omega arith) (rw (c .before .match .keys1) at (c .before .before .pre .1)), c .of-codabar .ensures)
+    omega (arith, codabar-some (a .codes .now) (a .n) (omega arith) (rw (c .before .match .keys1) at (c .before .before .pre .1 .1)), c .of-codabar .ensures)
 
 taken : (codes : List ℕ) (n : ℕ) → length codes ≡ 34 → n ≤ 34 → length (take n codes) ≡ n
 taken codes n e h = length-take-le n codes (omega arith)
@@ -35,21 +34,19 @@ returns c = ap (λ (k : ℕ). k - 1) (c .of-codabar .ensures) ∙ rw (c .before 
 returns-6 : tie.Need-returns-6
 returns-6 c =
     let s = c .before .before .before in
-    as39 (s .args .codes) (s .args .n) (taken (s .args .codes) (s .args .n) (search needs) (s .pre .0)) (s .args .symbology) (c .before .if1 .left) (c .if2 .taken)
+    as39 (s .args .codes .now) (s .args .n) (taken (s .args .codes .now) (s .args .n) (search needs) (s .pre .1 .0)) (s .args .symbology) (c .before .if1 .left) (c .if2 .taken)
 
 returns-7 : tie.Need-returns-7
 returns-7 c =
     let a = c .before .before .args in
-    let long : length (a .codes) ≡ 34 = search needs in
-    absurd (omega (arith, known (a .symbology) (a .n) (count (a .symbology) (a .codes) (a .n) (omega arith) (c .before .before .pre .1)) .0))
+    absurd (omega (arith, known (a .symbology) (a .n) (count (a .symbology) (a .codes .now) (a .n) (omega arith) (c .before .before .pre .1 .1)) .0))
 
 returns-8 : tie.Need-returns-8
 unfolding modulesOf totals
 returns-8 c =
     let s = c .before .before .before in
     let a = s .args in
-    let long : length (a .codes) ≡ 34 = search needs in
-    last-arm (λ k. 95 ≡ modulesOf k (take (a .n) (a .codes))) refl refl (a .symbology) (a .n) (count (a .symbology) (a .codes) (a .n) (omega arith) (s .pre .1))
+    last-arm (λ k. 95 ≡ modulesOf k (take (a .n) (a .codes .now))) refl refl (a .symbology) (a .n) (count (a .symbology) (a .codes .now) (a .n) (omega arith) (s .pre .1 .1))
     (c .if2 .left)
     (c .before .before .match .rest)
 
@@ -69,9 +66,9 @@ modules-of-spec =
     (λ c. search needs)
     (λ c. search needs)
     returns
-    (λ c. unfold modulesOf totals in rw (c .match .keys2, taken (c .before .args .codes) (c .before .args .n) (search needs) (c .before .pre .0)))
-    (λ c. unfold modulesOf totals in rw (c .match .keys3, taken (c .before .args .codes) (c .before .args .n) (search needs) (c .before .pre .0)))
-    (λ c. unfold modulesOf totals in rw (c .match .keys4, taken (c .before .args .codes) (c .before .args .n) (search needs) (c .before .pre .0)))
+    (λ c. unfold modulesOf totals in rw (c .match .keys2, taken (c .before .args .codes .now) (c .before .args .n) (search needs) (c .before .pre .1 .0)))
+    (λ c. unfold modulesOf totals in rw (c .match .keys3, taken (c .before .args .codes .now) (c .before .args .n) (search needs) (c .before .pre .1 .0)))
+    (λ c. unfold modulesOf totals in rw (c .match .keys4, taken (c .before .args .codes .now) (c .before .args .n) (search needs) (c .before .pre .1 .0)))
     (λ c. unfold modulesOf totals in rw (c .match .keys5))
     returns-6
     returns-7

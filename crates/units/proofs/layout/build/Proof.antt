@@ -45,20 +45,20 @@ either f g (inr b) = g b
 
 halves-requires : tie.Need-halves-requires
 halves-requires c κs =
-    let a = c .before .before .before in
-    let long : length (c .sides-of .result) ≡ 34 = search needs in
-    let h : Halves 7 (a .args .n) 6 (take (a .args .n) (a .args .codes)) (c .sides-of .result)
-    = halves13 (a .args .codes) (c .sides-of .result) (a .args .n) (search needs) (omega arith)
-    (ready-as (a .args .symbology) 7 (take (a .args .n) (a .args .codes)) (c .before .before .match .keys5) (a .pre .1 .1)) (c .sides-of .ensures) in
-    (a .pre .0, (lit≤ tt, (h .left, h .right)))
+    let a = c .before .before .before .before in
+    let long : length (c .before .before .sides-of .result) ≡ 34 = search needs in
+    let h : Halves 7 (a .args .n) 6 (take (a .args .n) (a .args .codes .now)) (c .before .before .sides-of .result)
+    = halves13 (a .args .codes .now) (c .before .before .sides-of .result) (a .args .n) (search needs) (omega arith)
+    (ready-as (a .args .symbology) 7 (take (a .args .n) (a .args .codes .now)) (c .before .before .before .match .keys5) (a .pre .1 .1 .1)) (c .before .before .sides-of .ensures) in
+    (a .pre .0, (long, (lit≤ tt, (h .left, h .right))))
 
 halves-requires-2 : tie.Need-halves-requires-2
 halves-requires-2 c κs =
     let a = c .before .before in
-    let h : Halves 8 (a .args .n) 4 (take (a .args .n) (a .args .codes)) (a .args .codes)
-    = halves8 (a .args .codes) (a .args .n) (search needs)
-    (ready-as (a .args .symbology) 8 (take (a .args .n) (a .args .codes)) (c .before .match .keys6) (a .pre .1 .1)) in
-    (a .pre .0, (lit≤ tt, (h .left, h .right)))
+    let h : Halves 8 (a .args .n) 4 (take (a .args .n) (a .args .codes .now)) (a .args .codes .now)
+    = halves8 (a .args .codes .now) (a .args .n) (search needs)
+    (ready-as (a .args .symbology) 8 (take (a .args .n) (a .args .codes .now)) (c .before .match .keys6) (a .pre .1 .1 .1)) in
+    (a .pre .0, (a .pre .1 .0, (lit≤ tt, (h .left, h .right))))
 
 code39-requires : tie.Need-code39-requires
 code39-requires c κs =
@@ -66,7 +66,10 @@ code39-requires c κs =
       a .pre .0,
       (
         a .pre .1 .0,
-        either39 (a .args .n) (take (a .args .n) (a .args .codes)) (a .args .symbology) (c .before .before .if1 .left) (c .before .if2 .taken) .ready39 (a .pre .1 .1),
+        (
+          a .pre .1 .1 .0,
+          either39 (a .args .n) (take (a .args .n) (a .args .codes .now)) (a .args .symbology) (c .before .before .if1 .left) (c .before .if2 .taken) .ready39 (a .pre .1 .1 .1),
+        ),
       ),
     )
 
@@ -74,36 +77,36 @@ halves-requires-3 : tie.Need-halves-requires-3
 halves-requires-3 c κs =
     let a = c .before .before .before in
     let nine : a .args .symbology ≡ 9
-    = either (λ h. none (a .args .symbology) (a .args .n) (a .args .codes) (search needs) (a .pre .1 .1) (h .taken))
-    (λ h. nine (a .args .symbology) (a .args .n) (a .args .codes) (search needs) (a .pre .1 .1) (c .before .before .match .rest) (h .1 .left)) (c .before .if1 .came) in
-    let h : Halves 9 (a .args .n) 6 (take (a .args .n) (a .args .codes)) (a .args .codes)
-    = halves12 (a .args .codes) (a .args .n) (search needs) (ready-as (a .args .symbology) 9 (take (a .args .n) (a .args .codes)) nine (a .pre .1 .1)) in
-    (a .pre .0, (lit≤ tt, (h .left, h .right)))
+    = either (λ h. none (a .args .symbology) (a .args .n) (a .args .codes .now) (search needs) (a .pre .1 .1 .1) (h .taken))
+    (λ h. nine (a .args .symbology) (a .args .n) (a .args .codes .now) (search needs) (a .pre .1 .1 .1) (c .before .before .match .rest) (h .1 .left)) (c .before .if1 .came) in
+    let h : Halves 9 (a .args .n) 6 (take (a .args .n) (a .args .codes .now)) (a .args .codes .now)
+    = halves12 (a .args .codes .now) (a .args .n) (search needs) (ready-as (a .args .symbology) 9 (take (a .args .n) (a .args .codes .now)) nine (a .pre .1 .1 .1)) in
+    (a .pre .0, (a .pre .1 .0, (lit≤ tt, (h .left, h .right))))
 
 returns-5 : tie.Need-returns-5
 returns-5 c =
-    let a = c .before .before .before .before in
-    let long : length (c .before .sides-of .result) ≡ 34 = search needs in (
+    let a = c .before .before .before .before .before in
+    let long : length (c .before .before .before .sides-of .result) ≡ 34 = search needs in (
       c .halves .ensures .0,
-      twice (a .args .symbology) 7 (a .args .n) 6 (take (a .args .n) (a .args .codes)) (c .before .sides-of .result) (c .halves .last .0) (c .before .before .before .match .keys5)
-          (halves13 (a .args .codes) (c .before .sides-of .result) (a .args .n) (search needs) (omega arith)
-          (ready-as (a .args .symbology) 7 (take (a .args .n) (a .args .codes)) (c .before .before .before .match .keys5) (a .pre .1 .1)) (c .before .sides-of .ensures)) (c .halves .ensures .1),
+      twice (a .args .symbology) 7 (a .args .n) 6 (take (a .args .n) (a .args .codes .now)) (c .before .before .before .sides-of .result) (c .halves .last .0) (c .before .before .before .before .match .keys5)
+          (halves13 (a .args .codes .now) (c .before .before .before .sides-of .result) (a .args .n) (search needs) (omega arith)
+          (ready-as (a .args .symbology) 7 (take (a .args .n) (a .args .codes .now)) (c .before .before .before .before .match .keys5) (a .pre .1 .1 .1)) (c .before .before .before .sides-of .ensures)) (c .halves .ensures .1),
     )
 
 returns-6 : tie.Need-returns-6
 returns-6 c =
     let a = c .before .before .before in (
       c .halves2 .ensures .0,
-      twice (a .args .symbology) 8 (a .args .n) 4 (take (a .args .n) (a .args .codes)) (a .args .codes) (c .halves2 .last .0) (c .before .before .match .keys6)
-          (halves8 (a .args .codes) (a .args .n) (search needs)
-          (ready-as (a .args .symbology) 8 (take (a .args .n) (a .args .codes)) (c .before .before .match .keys6) (a .pre .1 .1))) (c .halves2 .ensures .1),
+      twice (a .args .symbology) 8 (a .args .n) 4 (take (a .args .n) (a .args .codes .now)) (a .args .codes .now) (c .halves2 .last .0) (c .before .before .match .keys6)
+          (halves8 (a .args .codes .now) (a .args .n) (search needs)
+          (ready-as (a .args .symbology) 8 (take (a .args .n) (a .args .codes .now)) (c .before .before .match .keys6) (a .pre .1 .1 .1))) (c .halves2 .ensures .1),
     )
 
 returns-7 : tie.Need-returns-7
 returns-7 c =
     let a = c .before .before .before .before .before in
-    let e : Either39 (a .args .symbology) (a .args .n) (take (a .args .n) (a .args .codes))
-    = either39 (a .args .n) (take (a .args .n) (a .args .codes)) (a .args .symbology) (c .before .before .before .if1 .left) (c .before .before .if2 .taken) in (
+    let e : Either39 (a .args .symbology) (a .args .n) (take (a .args .n) (a .args .codes .now))
+    = either39 (a .args .n) (take (a .args .n) (a .args .codes .now)) (a .args .symbology) (c .before .before .before .if1 .left) (c .before .before .if2 .taken) in (
       c .code39 .ensures .0,
       ap (λ (m : ℕ). take m (c .code39 .last .0)) (e .elements39) ∙ c .code39 .ensures .1 ∙ e .strip39,
     )
@@ -112,22 +115,22 @@ returns-8 : tie.Need-returns-8
 returns-8 c =
     let a = c .before .before .before .before in
     let nine : a .args .symbology ≡ 9
-    = either (λ h. none (a .args .symbology) (a .args .n) (a .args .codes) (search needs) (a .pre .1 .1) (h .taken))
-    (λ h. nine (a .args .symbology) (a .args .n) (a .args .codes) (search needs) (a .pre .1 .1) (c .before .before .before .match .rest) (h .1 .left)) (c .before .before .if1 .came) in (
+    = either (λ h. none (a .args .symbology) (a .args .n) (a .args .codes .now) (search needs) (a .pre .1 .1 .1) (h .taken))
+    (λ h. nine (a .args .symbology) (a .args .n) (a .args .codes .now) (search needs) (a .pre .1 .1 .1) (c .before .before .before .match .rest) (h .1 .left)) (c .before .before .if1 .came) in (
       c .halves3 .ensures .0,
-      twice (a .args .symbology) 9 (a .args .n) 6 (take (a .args .n) (a .args .codes)) (a .args .codes) (c .halves3 .last .0) nine
-          (halves12 (a .args .codes) (a .args .n) (search needs) (ready-as (a .args .symbology) 9 (take (a .args .n) (a .args .codes)) nine (a .pre .1 .1))) (c .halves3 .ensures .1),
+      twice (a .args .symbology) 9 (a .args .n) 6 (take (a .args .n) (a .args .codes .now)) (a .args .codes .now) (c .halves3 .last .0) nine
+          (halves12 (a .args .codes .now) (a .args .n) (search needs) (ready-as (a .args .symbology) 9 (take (a .args .n) (a .args .codes .now)) nine (a .pre .1 .1 .1))) (c .halves3 .ensures .1),
     )
 
 pub build-spec : {M : Type 1} → statement M
 build-spec =
     tie.close
     (tie.spec
-    (λ c κs. (c .before .before .pre .0, (c .before .before .pre .1 .0, ready-as _ 3 _ (c .before .match .keys1) (c .before .before .pre .1 .1))))
-    (λ c κs. (c .before .before .pre .0, (c .before .before .pre .1 .0, ready-as _ 4 _ (c .before .match .keys2) (c .before .before .pre .1 .1))))
-    (λ c κs. (c .before .before .pre .0, (c .before .before .pre .1 .0, ready-as _ 5 _ (c .before .match .keys3) (c .before .before .pre .1 .1))))
-    (λ c κs. (c .before .before .pre .0, (c .before .before .pre .1 .0, ready-as _ 6 _ (c .before .match .keys4) (c .before .before .pre .1 .1))))
-    (λ c κs. digits13 (c .before .before .args .codes) (c .before .before .args .n) (search needs) (ready-as _ 7 _ (c .before .match .keys5) (c .before .before .pre .1 .1)))
+    (λ c κs. (c .before .before .pre .0, (c .before .before .pre .1 .0, (c .before .before .pre .1 .1 .0, ready-as _ 3 _ (c .before .match .keys1) (c .before .before .pre .1 .1 .1)))))
+    (λ c κs. (c .before .before .pre .0, (c .before .before .pre .1 .0, (c .before .before .pre .1 .1 .0, ready-as _ 4 _ (c .before .match .keys2) (c .before .before .pre .1 .1 .1)))))
+    (λ c κs. (c .before .before .pre .0, (c .before .before .pre .1 .0, (c .before .before .pre .1 .1 .0, ready-as _ 5 _ (c .before .match .keys3) (c .before .before .pre .1 .1 .1)))))
+    (λ c κs. (c .before .before .pre .0, (c .before .before .pre .1 .0, (c .before .before .pre .1 .1 .0, ready-as _ 6 _ (c .before .match .keys4) (c .before .before .pre .1 .1 .1)))))
+    (λ c κs. (c .before .pre .1 .0, digits13 (c .before .args .codes .now) (c .before .args .n) (search needs) (ready-as _ 7 _ (c .match .keys5) (c .before .pre .1 .1 .1))))
     halves-requires
     halves-requires-2
     code39-requires

@@ -3,6 +3,7 @@
 use mathlib.Core.Path.{_≡_}
 use Prim.Native.Nat.{_≤_}
 use native.Mathlib.Omega.{arith}
+use lib.Dec.{lit<}
 use lib.ListN.{length, take}
 use borrow.Author.Needs.{needs}
 use Rattle.units.specs.Totals.{totals, elementsOf}
@@ -18,11 +19,11 @@ parted-requires c κs =
     let a = c .before .before .before in
     let t = c .before .before .code39 .result in
     let long : length t ≡ 440 = search needs in
-    let small : a .args .n ≤ 32 = few-chars 1 counted-39 (a .args .codes) (a .args .n) (search needs) (a .pre .1 .1) in (
-      (a .pre .0, (a .pre .1 .0, omega arith)),
+    let small : a .args .n ≤ 32 = few-chars 1 counted-39 (a .args .codes .now) (a .args .n) (search needs) (a .pre .1 .1 .1) in (
+      (a .pre .0, (a .pre .1 .0, (a .pre .1 .1 .0, omega arith))),
       (
         (omega arith, (omega arith, omega arith)),
-        within-below (length t) 0 10 43 (take (a .args .n) (a .args .codes)) (omega arith) (below39 (take (a .args .n) (a .args .codes)) (a .pre .1 .1)),
+        (lit< tt, within-below (length t) 0 10 43 (take (a .args .n) (a .args .codes .now)) (omega arith) (below39 (take (a .args .n) (a .args .codes .now)) (a .pre .1 .1 .1))),
       ),
     )
 
@@ -31,8 +32,8 @@ returns c =
     let a = c .before .before .before .before in
     let t = c .before .before .before .code39 in (
       c .parted .ensures .0,
-      built 1 10 ends39 text39 (t .result) (take (a .args .n) (a .args .codes)) (c .parted .last .0) (a .args .n) (t .ensures)
-          (strip39 (take (a .args .n) (a .args .codes)) (below39 (take (a .args .n) (a .args .codes)) (a .pre .1 .1))) (unfold elementsOf totals in omega arith) (c .parted .ensures .1),
+      built 1 10 ends39 text39 (t .result) (take (a .args .n) (a .args .codes .now)) (c .parted .last .0) (a .args .n) (t .ensures)
+          (strip39 (take (a .args .n) (a .args .codes .now)) (below39 (take (a .args .n) (a .args .codes .now)) (a .pre .1 .1 .1))) (unfold elementsOf totals in omega arith) (c .parted .ensures .1),
     )
 
 pub code39-spec : {M : Type 1} → statement M

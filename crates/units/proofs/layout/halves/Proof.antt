@@ -15,21 +15,21 @@ left-requires : tie.Need-left-requires
 left-requires c κs =
     let a = c .before .before .before in
     let long : length (c .before .before .ean .result) ≡ 128 = search needs in
-    (a .pre .0, (long, (a .pre .1 .0, a .pre .1 .1 .0)))
+    (a .pre .0, (a .pre .1 .0, (long, (a .pre .1 .1 .0, a .pre .1 .1 .1 .0))))
 
 right-requires : tie.Need-right-requires
 right-requires c κs =
     let a = c .before .before .before .before .before .before in
     let long : length (c .before .before .before .before .before .ean .result) ≡ 128 = search needs in
-    ((c .before .before .left .ensures .1 .0, (long, (a .pre .1 .0, a .pre .1 .1 .1))), omega (arith, c .before .before .left .ensures .0, a .pre .1 .0))
+    ((c .before .before .left .ensures .1 .0, (a .pre .1 .0, (long, (a .pre .1 .1 .0, a .pre .1 .1 .1 .1)))), omega (arith, c .before .before .left .ensures .0, a .pre .1 .1 .0))
 
 returns : tie.Need-returns
 returns c =
     let l = c .before .before .before in
     let a = l .before .before .before .before in
     let t = l .before .before .before .ean in
-    let cs : List ℕ = take (a .args .half) (a .args .codes) in
-    let ds : List ℕ = take (a .args .half) (drop (a .args .half) (a .args .codes)) in
+    let cs : List ℕ = take (a .args .half) (a .args .codes .now) in
+    let ds : List ℕ = take (a .args .half) (drop (a .args .half) (a .args .codes .now)) in
     let n : 8 * a .args .half + 11 ≡ l .left .result .0 + (4 * a .args .half + 3) = omega (arith, l .left .ensures .0) in (
       c .right .ensures .0,
       ap (λ (m : ℕ). take m (c .right .last .0)) n

@@ -19,11 +19,11 @@ parted-requires c κs =
     let a = c .before .before .before in
     let t = c .before .before .industrial .result in
     let long : length t ≡ 111 = search needs in
-    let small : a .args .n ≤ 32 = few-chars 4 counted-industrial (a .args .codes) (a .args .n) (search needs) (a .pre .1 .1) in (
-      (a .pre .0, (a .pre .1 .0, omega arith)),
+    let small : a .args .n ≤ 32 = few-chars 4 counted-industrial (a .args .codes .now) (a .args .n) (search needs) (a .pre .1 .1 .1) in (
+      (a .pre .0, (a .pre .1 .0, (a .pre .1 .1 .0, omega arith))),
       (
         (omega arith, (omega arith, omega arith)),
-        within-below (length t) 0 10 10 (take (a .args .n) (a .args .codes)) (omega arith) (below-digits 4 (lit≤ tt) (lit< tt) (take (a .args .n) (a .args .codes)) (a .pre .1 .1)),
+        (lit< tt, within-below (length t) 0 10 10 (take (a .args .n) (a .args .codes .now)) (omega arith) (below-digits 4 (lit≤ tt) (lit< tt) (take (a .args .n) (a .args .codes .now)) (a .pre .1 .1 .1))),
       ),
     )
 
@@ -32,8 +32,8 @@ returns c =
     let a = c .before .before .before .before in
     let t = c .before .before .before .industrial in (
       c .parted .ensures .0,
-      built 4 10 endsIndustrial textIndustrial (t .result) (take (a .args .n) (a .args .codes)) (c .parted .last .0) (a .args .n) (t .ensures)
-          (stripIndustrial (take (a .args .n) (a .args .codes)) (below-digits 4 (lit≤ tt) (lit< tt) (take (a .args .n) (a .args .codes)) (a .pre .1 .1))) (unfold elementsOf totals in omega arith) (c .parted .ensures .1),
+      built 4 10 endsIndustrial textIndustrial (t .result) (take (a .args .n) (a .args .codes .now)) (c .parted .last .0) (a .args .n) (t .ensures)
+          (stripIndustrial (take (a .args .n) (a .args .codes .now)) (below-digits 4 (lit≤ tt) (lit< tt) (take (a .args .n) (a .args .codes .now)) (a .pre .1 .1 .1))) (unfold elementsOf totals in omega arith) (c .parted .ensures .1),
     )
 
 pub industrial-spec : {M : Type 1} → statement M

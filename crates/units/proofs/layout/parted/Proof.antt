@@ -16,7 +16,7 @@ returns c =
     let h = l .before .before .put in
     let t = a .text .now in (
       c .put2 .ensures .1 .0,
-      three (h .last .0) (l .put-units .last .0) (c .put2 .last .0) (cut t (a .ends .start) (a .ends .long)) (unitsIn t 0 (a .k) (take (a .n) (a .codes)))
+      three (h .last .0) (l .put-units .last .0) (c .put2 .last .0) (cut t (a .ends .start) (a .ends .long)) (unitsIn t 0 (a .k) (take (a .n) (a .codes .now)))
           (cut t (a .ends .stop) (a .ends .short)) (0 + a .ends .long) (h .result .0) (l .put-units .result .0) (a .k * a .n) (a .ends .short)
           (a .ends .long + a .k * a .n + a .ends .short) (h .ensures .1 .1) (h .ensures .0) (l .put-units .ensures .1 .1) (l .put-units .ensures .0)
           (c .put2 .ensures .1 .1) (omega (arith, l .put-units .ensures .0, h .ensures .0)),

@@ -22,28 +22,25 @@ mul-sides c = omega (arith, c .side .ensures, side-small (c .before .before .bef
 
 add-sides-2 : tie.Need-add-sides-2 Inv-loop μ-loop
 add-sides-2 c =
-    let l = c .before .before in
-    let a = l .before .before in
-    let long : length (a .args .t1) ≡ 34 = search needs in
-    omega (arith, c .side .ensures, side-small (l .before .parities-of .result) (l .loop .i), digit-small (a .args .t1) (l .loop .i) (omega arith) (omega arith) (a .pre))
+    let l = c .before .before .before in
+    let a = l .before .before .before in
+    omega (arith, c .before .side .ensures, side-small (l .before .parities-of .result) (l .loop .i), digit-small (a .args .codes .now) (l .loop .i) (omega arith) (omega arith) (a .pre .1))
 
 loop-again : tie.Need-loop-again Inv-loop μ-loop
 loop-again c =
-    let l = c .before .before in
-    let a = l .before .before in
-    let long : length (a .args .t1) ≡ 34 = search needs in (
+    let l = c .before .before .before in
+    let a = l .before .before .before in (
       omega arith,
       length-set (l .loop .sides) _ _ ∙ l .loop .inv .1,
-      sides-more (a .args .t1) (l .loop .sides) (l .before .parities-of .result) (l .loop .i) (c .side .result) (omega arith) (omega arith)
-          (omega (arith, l .loop .inv .1)) (l .before .parities-of .ensures) (c .side .ensures) (l .loop .inv .2),
+      sides-more (a .args .codes .now) (l .loop .sides) (l .before .parities-of .result) (l .loop .i) (c .before .side .result) (omega arith) (omega arith)
+          (omega (arith, l .loop .inv .1)) (l .before .parities-of .ensures) (c .before .side .ensures) (l .loop .inv .2),
     )
 
 returns : tie.Need-returns Inv-loop μ-loop
 returns c =
     let l = c .before in
-    let long : length (l .before .before .args .t1) ≡ 34 = search needs in
     let e : l .loop .i ≡ 12 = omega arith in
-    rw e at (l .loop .inv .2) ∙ take-all 12 (sided (take 13 (l .before .before .args .t1))) (omega (arith, sided-long (l .before .before .args .t1) (omega arith)))
+    rw e at (l .loop .inv .2) ∙ take-all 12 (sided (take 13 (l .before .before .before .args .codes .now))) (omega (arith, sided-long (l .before .before .before .args .codes .now) (omega arith)))
 
 pub sides-of-spec : {M : Type 1} → statement M
 sides-of-spec =
