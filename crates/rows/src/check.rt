@@ -1,8 +1,7 @@
 // The check character (document 01, "Checks"): a weighted sum, taken up one character at a time, and its remainder by a modulus.
-use super::row::Row;
 ghost use mathlib.Core.Path.{_≡_};
 ghost use Prim.Native.Nat.{_+_, _≤_};
-ghost use lib.ListN.{take};
+ghost use lib.ListN.{length, take};
 ghost use Rattle.rows.specs.Symbologies.{symbologyOf};
 ghost use Rattle.rows.specs.Checks.{checkOf};
 ghost use Rattle.rows.specs.Held.{Small, taken, weighed, startOf};
@@ -32,14 +31,14 @@ impl Sum {
 }
 
 // The sum of the first n characters of a row.
-pub fn sum_of(start: Sum, row: Row, n: usize) -> usize
-    requires { ⌜ (Small 0 start) × (n ≤ 34) ⌝ }
-    ensures { λ r. ⌜ r ≡ weighed start (take n (row .codes)) ⌝ }
+pub fn sum_of(start: Sum, codes: &[u8; 34], n: usize) -> usize
+    requires { ⌜ (Small 0 start) × ((n ≤ 34) × (length (now codes) ≡ 34)) ⌝ }
+    ensures { λ r. ⌜ r ≡ weighed start (take n (now (codes .entry))) ⌝ }
 {
     let mut sum = start;
     let mut i = 0;
     while i < n {
-        sum = sum.take(row.codes[i]);
+        sum = sum.take(codes[i]);
         i += 1;
     }
     sum.total
@@ -76,11 +75,11 @@ fn sum_by(modulus: usize, weight: usize, other: usize) -> Sum
 }
 
 // The check of a row's first n characters.
-pub fn check_of(symbology: u8, row: Row, n: usize) -> u8
-    requires { ⌜ n ≤ 34 ⌝ }
-    ensures { λ r. ⌜ r ≡ checkOf (symbologyOf symbology .rule) (take n (row .codes)) ⌝ }
+pub fn check_of(symbology: u8, codes: &[u8; 34], n: usize) -> u8
+    requires { ⌜ (n ≤ 34) × (length (now codes) ≡ 34) ⌝ }
+    ensures { λ r. ⌜ r ≡ checkOf (symbologyOf symbology .rule) (take n (now (codes .entry))) ⌝ }
 {
-    let sum = sum_of(start_of(symbology, n), row, n);
+    let sum = sum_of(start_of(symbology, n), codes, n);
     match symbology {
         1 | 2 => (sum % 43) as u8,
         4 | 5 | 6 | 7 | 8 | 9 => ((10 - sum % 10) % 10) as u8,

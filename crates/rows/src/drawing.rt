@@ -126,7 +126,8 @@ fn finish(symbology: u8, mode: u8, head: Row, value: u8) -> Rowed
             row: head,
         };
     }
-    let right = check::check_of(symbology, head, n);
+    let codes = head.codes;
+    let right = check::check_of(symbology, &codes, n);
     if mode == 1 {
         if value != right {
             return turn_away(Answer::BadCheck(CharPlace(n)));

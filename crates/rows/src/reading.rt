@@ -31,7 +31,8 @@ fn judged_row(symbology: u8, mode: u8, row: Row) -> Rowed
 {
     let n = row.len;
     if mode == 0 {
-        let spelled = spelling::unspell_row(symbology, row, n);
+        let codes = row.codes;
+        let spelled = spelling::unspell_row(symbology, &codes, n);
         let bad = spelled.bad;
         if bad < n {
             return drawing::turn_away(Answer::NoExpansion(CharPlace(bad)));
@@ -50,14 +51,14 @@ fn checked(symbology: u8, mode: u8, row: Row, n: usize) -> Rowed
     requires { ⌜ (mode < 3) × ((mode ≡ 0 → ⊥) × (n < 34)) ⌝ }
     ensures { λ r. ⌜ r ≡ told (readRow (symbologyOf symbology) mode (take (suc n) (row .codes))) ⌝ }
 {
-    let spelled = spelling::unspell_row(symbology, row, n);
+    let codes = row.codes;
+    let spelled = spelling::unspell_row(symbology, &codes, n);
     let bad = spelled.bad;
     if bad < n {
         return drawing::turn_away(Answer::NoExpansion(CharPlace(bad)));
     }
-    let codes = row.codes;
     let last = codes[n];
-    if last != check::check_of(symbology, row, n) {
+    if last != check::check_of(symbology, &codes, n) {
         return drawing::turn_away(Answer::BadCheck(CharPlace(n)));
     }
     let text = spelled.row;

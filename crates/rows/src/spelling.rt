@@ -51,11 +51,10 @@ pub struct Item {
 }
 
 // The item that begins at a place of a row's first n characters.
-fn item_at(symbology: u8, row: Row, at: usize, n: usize) -> Item
-    requires { ⌜ (at < n) × (n ≤ 34) ⌝ }
-    ensures { λ r. ⌜ r ≡ itemOf (symbologyOf symbology .coder) (eqb at 0) (drop at (take n (row .codes))) ⌝ }
+fn item_at(symbology: u8, codes: &[u8; 34], at: usize, n: usize) -> Item
+    requires { ⌜ (at < n) × ((n ≤ 34) × (length (now codes) ≡ 34)) ⌝ }
+    ensures { λ r. ⌜ r ≡ itemOf (symbologyOf symbology .coder) (eqb at 0) (drop at (take n (now (codes .entry)))) ⌝ }
 {
-    let codes = row.codes;
     let c = codes[at];
     if coder::is_shift(symbology, c) {
         if at + 1 < n {
@@ -74,15 +73,15 @@ fn item_at(symbology: u8, row: Row, at: usize, n: usize) -> Item
 }
 
 // The data that a row's first n characters spell.
-pub fn unspell_row(symbology: u8, row: Row, n: usize) -> Spelled
-    requires { ⌜ n ≤ 34 ⌝ }
-    ensures { λ r. ⌜ r ≡ spelledIn n (unspell (symbologyOf symbology .coder) true 0 (take n (row .codes))) ⌝ }
+pub fn unspell_row(symbology: u8, codes: &[u8; 34], n: usize) -> Spelled
+    requires { ⌜ (n ≤ 34) × (length (now codes) ≡ 34) ⌝ }
+    ensures { λ r. ⌜ r ≡ spelledIn n (unspell (symbologyOf symbology .coder) true 0 (take n (now (codes .entry)))) ⌝ }
 {
     let mut text = [0; 34];
     let mut len = 0;
     let mut at = 0;
     while at < n {
-        let item = item_at(symbology, row, at, n);
+        let item = item_at(symbology, codes, at, n);
         let byte = item.byte;
         if 255 < byte {
             return Spelled {

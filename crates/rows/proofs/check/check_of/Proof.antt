@@ -1,9 +1,8 @@
 -- `check_of` gives the check off the sum that is held: each arm of the match is a law of `Sums`.
 -- Assumes nothing.
-use mathlib.Core.Path.{_≡_, _∙_}
+use mathlib.Core.Path.{_∙_}
 use mathlib.Core.Logic.{inl, inr}
 use native.Mathlib.Omega.{arith}
-use lib.ListN.{length}
 use lib.Seq.{length-take-le}
 use Rattle.rows.proofs.Sums.{small-start, checked, by-43, by-10, unchecked, past}
 use borrow.Author.Needs.{needs}
@@ -14,17 +13,15 @@ returns : tie.Need-returns
 returns c =
     let l = c .before .before in
     let a = l .before .before .args in
-    let long : length (a .row .codes) ≡ 34 = search needs in
     rw (l .sum-of .ensures, l .before .start-of .ensures)
-    (by-43 _ _ (c .before .if1 .left) (c .if2 .taken) ∙ checked _ _ _ (length-take-le (a .n) (a .row .codes) (omega (arith, l .before .before .pre))))
+    (by-43 _ _ (c .before .if1 .left) (c .if2 .taken) ∙ checked _ _ _ (length-take-le (a .n) (a .codes .now) (omega (arith, l .before .before .pre .0, l .before .before .pre .1))))
 
 returns-2 : tie.Need-returns-2
 returns-2 c =
     let l = c .before .before .before .before in
     let a = l .before .before .args in
-    let long : length (a .row .codes) ≡ 34 = search needs in
     rw (l .sum-of .ensures, l .before .start-of .ensures)
-    (by-10 _ _ (c .before .if3 .left) (c .if4 .taken) ∙ checked _ _ _ (length-take-le (a .n) (a .row .codes) (omega (arith, l .before .before .pre))))
+    (by-10 _ _ (c .before .if3 .left) (c .if4 .taken) ∙ checked _ _ _ (length-take-le (a .n) (a .codes .now) (omega (arith, l .before .before .pre .0, l .before .before .pre .1))))
 
 pub check-of-spec : {M : Type 1} → statement M
 check-of-spec =

@@ -40,24 +40,24 @@ returns-3 c =
 
 check-of-requires : tie.Need-check-of-requires
 check-of-requires c κs =
-    let a = c .before .before .before .before .before .before .args in
-    row-long (a .head .len) (a .mode) _ _ _ (c .before .before .before .before .before .drawn-count .ensures) (c .before .before .room-of .ensures) (room-small (a .symbology)) (c .before .if2 .left)
+    let a = c .before .before .before .before .before .before .before .before .args in
+    (row-long (a .head .len) (a .mode) _ _ _ (c .before .before .before .before .before .before .before .drawn-count .ensures) (c .before .before .before .before .room-of .ensures) (room-small (a .symbology)) (c .before .before .before .if2 .left), search needs)
 
 returns-4 : tie.Need-returns-4
 returns-4 c =
-    let a = c .before .before .before .before .before .before .before .before .before .before .args in
-    c .turn-away3 .ensures ∙ wrong (symbologyOf (a .symbology)) (a .mode) (a .head) (a .value) (c .before .before .before .before .before .before .before .before .before .drawn-count .result) (c .before .before .before .before .before .before .before .before .before .drawn-count .ensures)
-    (sym (c .before .before .before .before .before .before .before .before .is-odd .ensures) ∙ c .before .before .before .before .before .before .before .if1 .left)
-    (rw (c .before .before .before .before .before .before .room-of .ensures) at (c .before .before .before .before .before .if2 .left)) (c .before .before .before .check-of .result) (c .before .before .before .check-of .ensures)
-    (c .before .before .before .before .if3 .left) (c .before .before .if4 .taken) (c .before .if5 .taken)
+    let a = c .before .before .before .before .before .before .before .before .before .before .before .before .args in
+    c .turn-away3 .ensures ∙ wrong (symbologyOf (a .symbology)) (a .mode) (a .head) (a .value) (c .before .before .before .before .before .before .before .before .before .before .before .drawn-count .result) (c .before .before .before .before .before .before .before .before .before .before .before .drawn-count .ensures)
+    (sym (c .before .before .before .before .before .before .before .before .before .before .is-odd .ensures) ∙ c .before .before .before .before .before .before .before .before .before .if1 .left)
+    (rw (c .before .before .before .before .before .before .before .before .room-of .ensures) at (c .before .before .before .before .before .before .before .if2 .left)) (c .before .before .before .check-of .result) (c .before .before .before .check-of .ensures)
+    (c .before .before .before .before .before .before .if3 .left) (c .before .before .if4 .taken) (c .before .if5 .taken)
 
 returns-5 : tie.Need-returns-5
 returns-5 c =
-    let a = c .before .before .before .before .before .before .before .before .before .args in
-    ap (λ (r : Row). record { verdict = Given; row = r }) (c .push .ensures) ∙ pushed-on (symbologyOf (a .symbology)) (a .mode) (a .head) (a .value) (c .before .before .before .before .before .before .before .before .drawn-count .result) (c .before .before .before .before .before .before .before .before .drawn-count .ensures)
-    (sym (c .before .before .before .before .before .before .before .is-odd .ensures) ∙ c .before .before .before .before .before .before .if1 .left)
-    (rw (c .before .before .before .before .before .room-of .ensures) at (c .before .before .before .before .if2 .left)) (c .before .before .check-of .result) (c .before .before .check-of .ensures)
-    (c .before .before .before .if3 .left) (⊎-elim (λ w. inr (w .1 .left)) (λ w. inl (w .left)) (c .before .if4 .came))
+    let a = c .before .before .before .before .before .before .before .before .before .before .before .args in
+    ap (λ (r : Row). record { verdict = Given; row = r }) (c .push .ensures) ∙ pushed-on (symbologyOf (a .symbology)) (a .mode) (a .head) (a .value) (c .before .before .before .before .before .before .before .before .before .before .drawn-count .result) (c .before .before .before .before .before .before .before .before .before .before .drawn-count .ensures)
+    (sym (c .before .before .before .before .before .before .before .before .before .is-odd .ensures) ∙ c .before .before .before .before .before .before .before .before .if1 .left)
+    (rw (c .before .before .before .before .before .before .before .room-of .ensures) at (c .before .before .before .before .before .before .if2 .left)) (c .before .before .check-of .result) (c .before .before .check-of .ensures)
+    (c .before .before .before .before .before .if3 .left) (⊎-elim (λ w. inr (w .1 .left)) (λ w. inl (w .left)) (c .before .if4 .came))
 
 pub finish-spec : {M : Type 1} → statement M
 finish-spec =

@@ -15,14 +15,14 @@ below n m e h = omega arith
 
 returns : tie.Need-returns
 returns c =
-    let a = c .before .before .before in
+    let a = c .before .before .before .before .before in
     let long : length (a .args .row .codes) ≡ 34 = search needs in
     let l : a .args .n < length (a .args .row .codes) = below _ _ long (a .pre .1 .1) in
     c .turn-away .ensures ∙ read-stopped (symbologyOf (a .args .symbology)) (a .args .mode) (a .args .row .codes) (a .args .n) (a .pre .1 .0) l (c .before .before .unspell-row .result) (c .before .before .unspell-row .ensures) (c .before .if1 .taken)
 
 returns-2 : tie.Need-returns-2
 returns-2 c =
-    let a = c .before .before .before .before .before .before in
+    let a = c .before .before .before .before .before .before .before .before in
     let long : length (a .args .row .codes) ≡ 34 = search needs in
     let l : a .args .n < length (a .args .row .codes) = below _ _ long (a .pre .1 .1) in
     c .turn-away2 .ensures ∙ read-wrong (symbologyOf (a .args .symbology)) (a .args .mode) (a .args .row .codes) (a .args .n) (a .pre .1 .0) l (c .before .before .before .before .before .unspell-row .result) (c .before .before .before .before .before .unspell-row .ensures)
@@ -30,7 +30,7 @@ returns-2 c =
 
 push-requires : tie.Need-push-requires
 push-requires c κs =
-    let a = c .before .before .before .before .before .before .before .before in
+    let a = c .before .before .before .before .before .before .before .before .before .before in
     let u = c .before .before .before .before .before .before .before .unspell-row in
     let long : length (a .args .row .codes) ≡ 34 = search needs in
     let l : a .args .n ≤ length (a .args .row .codes) = omega arith in
@@ -38,7 +38,7 @@ push-requires c κs =
 
 returns-3 : tie.Need-returns-3
 returns-3 c =
-    let a = c .before .before .before .before .before .before .before .before .before in
+    let a = c .before .before .before .before .before .before .before .before .before .before .before in
     let long : length (a .args .row .codes) ≡ 34 = search needs in
     let l : a .args .n < length (a .args .row .codes) = below _ _ long (a .pre .1 .1) in
     read-first (symbologyOf (a .args .symbology)) (a .args .mode) (a .args .row .codes) (a .args .n) (a .pre .1 .0) l (c .before .before .before .before .before .before .before .before .unspell-row .result) (c .before .before .before .before .before .before .before .before .unspell-row .ensures)
@@ -47,7 +47,7 @@ returns-3 c =
 
 returns-4 : tie.Need-returns-4
 returns-4 c =
-    let a = c .before .before .before .before .before .before .before in
+    let a = c .before .before .before .before .before .before .before .before .before in
     let long : length (a .args .row .codes) ≡ 34 = search needs in
     let l : a .args .n < length (a .args .row .codes) = below _ _ long (a .pre .1 .1) in
     read-second (symbologyOf (a .args .symbology)) (a .args .mode) (a .args .row .codes) (a .args .n) (a .pre .1 .0) l (c .before .before .before .before .before .before .unspell-row .result) (c .before .before .before .before .before .before .unspell-row .ensures)

@@ -12,17 +12,17 @@ use Rattle.rows.proofs.reading.judged_row.Tie as tie
 
 returns : tie.Need-returns
 returns c =
-    let a = c .before .before .before .before in
+    let a = c .before .before .before .before .before .before in
     let long : length (a .args .row .codes) ≡ 34 = search needs in
     let l : a .args .row .len ≤ length (a .args .row .codes) = omega arith in
-    c .turn-away .ensures ∙ plain-stopped (symbologyOf (a .args .symbology)) _ _ _ (c .before .before .before .if1 .taken) l _ (c .before .before .unspell-row .ensures) (c .before .if2 .taken)
+    c .turn-away .ensures ∙ plain-stopped (symbologyOf (a .args .symbology)) _ _ _ (c .before .before .before .before .before .if1 .taken) l _ (c .before .before .unspell-row .ensures) (c .before .if2 .taken)
 
 returns-2 : tie.Need-returns-2
 returns-2 c =
-    let a = c .before .before .before .before in
+    let a = c .before .before .before .before .before .before in
     let long : length (a .args .row .codes) ≡ 34 = search needs in
     let l : a .args .row .len ≤ length (a .args .row .codes) = omega arith in
-    plain-given (symbologyOf (a .args .symbology)) _ _ _ (c .before .before .before .if1 .taken) l _ (c .before .before .unspell-row .ensures) (c .before .if2 .left)
+    plain-given (symbologyOf (a .args .symbology)) _ _ _ (c .before .before .before .before .before .if1 .taken) l _ (c .before .before .unspell-row .ensures) (c .before .if2 .left)
 
 returns-3 : tie.Need-returns-3
 returns-3 c = let a = c .before .before in c .checked .ensures ∙ same-count _ _ _ _ (a .pre .1 .0)
