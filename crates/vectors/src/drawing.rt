@@ -7,14 +7,10 @@ use crate::part::Form;
 pub fn draw_text(vector: &[u8], symbology: u8, mode: u8, lent: usize, word: usize) {
     let mut text = [0; 64];
     let count = part::read(vector, word, Form::Text, &mut text);
-    draw_first(vector, symbology, mode, lent, &text, count);
-}
-
-fn draw_first(vector: &[u8], symbology: u8, mode: u8, lent: usize, text: &[u8], count: usize) {
-    if count <= text.len() {
-        draw_lent(vector, symbology, mode, lent, &text[0..count]);
-    } else {
+    if count > text.len() {
         line::bad();
+    } else {
+        draw_lent(vector, symbology, mode, lent, &text[0..count]);
     }
 }
 
@@ -35,16 +31,10 @@ pub fn draw_field(vector: &[u8], kind: u8, mode: u8) {
     let size = part::number(vector, 5);
     if part::read(vector, 6, Form::Text, &mut field) > size {
         line::bad();
-    } else {
-        draw_sized(vector, kind, mode, &field, size);
-    }
-}
-
-fn draw_sized(vector: &[u8], kind: u8, mode: u8, field: &[u8], size: usize) {
-    if size <= field.len() {
-        draw_counted(vector, kind, mode, part::number(vector, 4), &field[0..size]);
-    } else {
+    } else if size > field.len() {
         line::bad();
+    } else {
+        draw_counted(vector, kind, mode, part::number(vector, 4), &field[0..size]);
     }
 }
 

@@ -9,9 +9,9 @@ pub const FILL: u8 = 255;
 // name/symbology/mode/count
 pub fn label(vector: &[u8], symbology: u8, mode: u8, count: usize) {
     write_name(vector);
-    write_part(symbology as u64);
-    write_part(mode as u64);
-    write_part(count as u64);
+    write_number(b"/", symbology as u64);
+    write_number(b"/", mode as u64);
+    write_number(b"/", count as u64);
 }
 
 fn write_name(vector: &[u8]) {
@@ -24,8 +24,8 @@ fn write_name(vector: &[u8]) {
     }
 }
 
-fn write_part(n: u64) {
-    io::write_all(1, b"/");
+fn write_number(before: &[u8], n: u64) {
+    io::write_all(1, before);
     io::print_decimal(1, n);
 }
 
@@ -41,21 +41,16 @@ pub fn show_data(said: Said, room: &[u8; 40]) {
 
 fn show(said: Said, form: Form, room: &[u8]) {
     let count = said.count;
-    write_number(said.number as u64);
-    write_number(said.place as u64);
-    write_number(count as u64);
-    write_number(said.total as u64);
+    write_number(b" ", said.number as u64);
+    write_number(b" ", said.place as u64);
+    write_number(b" ", count as u64);
+    write_number(b" ", said.total as u64);
     write_first(room, count, form);
     if is_kept(room, count) {
         io::write_all(1, b" kept\n");
     } else {
         io::write_all(1, b" changed\n");
     }
-}
-
-fn write_number(n: u64) {
-    io::write_all(1, b" ");
-    io::print_decimal(1, n);
 }
 
 // The first `count` bytes of the room, or - if there are none.

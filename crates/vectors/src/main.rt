@@ -29,6 +29,7 @@ mod part;
 mod reading;
 mod vector;
 
+// An input that fills the buffer may go on behind it, and is a bad line.
 fn main() {
     let mut space = io::large_buffer();
     let count = io::read_full(0, &mut space);

@@ -7,14 +7,10 @@ use crate::part::Form;
 pub fn read_widths(vector: &[u8], symbology: u8, mode: u8, lent: usize, word: usize) {
     let mut widths = [0; 400];
     let count = part::read(vector, word, Form::Widths, &mut widths);
-    read_first(vector, symbology, mode, lent, &widths, count);
-}
-
-fn read_first(vector: &[u8], symbology: u8, mode: u8, lent: usize, widths: &[u8], count: usize) {
-    if count <= widths.len() {
-        read_lent(vector, symbology, mode, lent, &widths[0..count]);
-    } else {
+    if count > widths.len() {
         line::bad();
+    } else {
+        read_lent(vector, symbology, mode, lent, &widths[0..count]);
     }
 }
 
