@@ -2,18 +2,18 @@
 --
 --   none-behind    above 9 there is no kind
 --   body-none      a body of no bytes is that of no kind; body-some, any other that of a kind
---   body-field     a kind's body is mode, count and field
+--   body-field     a kind's body is mode, count and field; body-long, so it is two bytes at least
 --   body-most      no record is longer than 37 bytes
 --
 -- Assumes nothing.
-use mathlib.Core.Path.{_≡_, refl}
+use mathlib.Core.Path.{_≡_, refl, _∙_}
 use mathlib.Core.Bool.{Bool, true, false}
 use Prim.Native.Nat.{ℕ, _+_, _<_, _≤_}
 use native.Mathlib.Omega.{arith}
 use lib.Dec.{leb}
 use borrow.Author.Tests.{leb-true}
 use Rattle.laws.specs.Search.{pick}
-use Rattle.laws.proofs.Finite.{both-right, each-at}
+use Rattle.laws.proofs.Finite.{both-right, upto-at}
 use Rattle.jobs.specs.Kinds.{fields, fieldOf, known, bodyOf}
 
 known-most : (k : ℕ) → known k ≡ true → k ≤ 9
@@ -48,17 +48,17 @@ pub body-field : (k : ℕ) → known k ≡ true → bodyOf k ≡ 2 + fieldOf k
 unfolding bodyOf
 body-field k e = rw e
 
-field-most : (k : ℕ) → fieldOf k ≤ 34
-unfolding fieldOf fields
-field-most k =
-    each-at (λ n. n ≤ 34) fields 0
-    (omega arith, (omega arith, (omega arith, (omega arith, (omega arith, (omega arith, (omega arith, (omega arith, (omega arith, (omega arith, tt))))))))))
-    (omega arith) k
+pub body-long : (k : ℕ) {body : ℕ} → body ≡ bodyOf k → (body ≡ 0 → ⊥) → 2 ≤ body
+body-long k e z = omega (arith, body-field k (body-some k (λ q. z (e ∙ q))))
 
-most-by : (b : Bool) (n : ℕ) → n ≤ 34 → pick b (2 + n) 0 ≤ 36
-most-by true n h = omega arith
-most-by false n h = omega arith
+field-most : (k : ℕ) → k ≤ 9 → fieldOf k ≤ 34
+unfolding fieldOf fields
+field-most k h = leb-true (fieldOf k) 34 (upto-at 10 (λ k. leb (fieldOf k) 34) refl k (omega arith))
+
+most-by : (k : ℕ) (b : Bool) → known k ≡ b → pick b (2 + fieldOf k) 0 ≤ 36
+most-by k true e = omega (arith, field-most k (known-most k e))
+most-by k false e = omega arith
 
 pub body-most : (k : ℕ) → bodyOf k ≤ 36
 unfolding bodyOf
-body-most k = most-by (known k) (fieldOf k) (field-most k)
+body-most k = most-by k (known k) refl

@@ -23,7 +23,7 @@ few-by : (k n : ℕ) (b : Bool) (xs : List ℕ) → length xs ≤ k → length (
 few-by k n true xs h = omega arith
 few-by k n false xs h = rw length-append (omega arith)
 
-pub few-in : (k n : ℕ) → length (digitsIn k n) ≤ k
+few-in : (k n : ℕ) → length (digitsIn k n) ≤ k
 few-in zero n = omega arith
 few-in (suc k) n = few-by k n (ltb n 10) (digitsIn k (n / 10)) (few-in k (n / 10))
 

@@ -1,7 +1,7 @@
 -- Document 01's example, computed from the definitions that the calls promise.
 --
 --   example-prints   the two records print the three lines
---   none, largest    the decimal digits of 0 and of the largest u64
+--   zero-prints, largest-prints    the decimal digits of 0 and of the largest u64
 --
 -- Assumes nothing.
 use mathlib.Core.Path.{_≡_, refl}
@@ -26,10 +26,10 @@ pub example-prints : run example ≡ printed
 unfolding example printed runFrom counted endLine stopLine lineOf callOf decimal bodyOf known fieldOf fields drawField rowOf rowOfField drawnRow symbologyOf symbologies valueOf byteOf rowsOf plain checkOf by43 left10 right10 indexIn alphabetDigits table44 digitRows interleavedRows interleavedStart interleavedStop interleaved plans planOf unitsOf stripOf totals elementsOf modulesOf
 example-prints = refl
 
-pub none : decimal 0 ≡ text "0"
+pub zero-prints : decimal 0 ≡ text "0"
 unfolding decimal
-none = refl
+zero-prints = refl
 
-pub largest : decimal 18446744073709551615 ≡ text "18446744073709551615"
+pub largest-prints : decimal 18446744073709551615 ≡ text "18446744073709551615"
 unfolding decimal
-largest = refl
+largest-prints = refl

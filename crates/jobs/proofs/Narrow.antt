@@ -1,25 +1,24 @@
--- What a record's drawing leaves in its room: no element is wider than 4 modules, so that each is a digit, and a strip that is
--- drawn is no longer than the room.
+-- No element that a record's drawing leaves in its room is wider than 4 modules, so that each is a digit.
 --
 --   all            a test that every entry of a list passes; `all-at`, `all-both`, `all-drop`
---   narrow         no width of a row is above 4; `narrow-strip`, so it is for strips whose kinds' rows are narrow
+--   narrow         no width of a row is above 4
+--   narrow-strip, narrow-shape, narrow-plans    so it is for strips whose kinds' rows are narrow, and for those of every plan
 --   narrow-room    so it is for every record's room
---   drawn-room     a strip that is drawn has at most 339 elements
 --
 -- Assumes nothing.
 use mathlib.Core.Path.{_≡_, refl}
 use mathlib.Core.Bool.{Bool, true, false, _&&_}
 use mathlib.Core.List.{List, [], _∷_, _++_}
 use Prim.Native.Nat.{ℕ, zero, suc, _≤_}
-use native.Mathlib.Omega.{arith}
 use lib.Dec.{leb, ltb}
 use lib.ListN.{length, getD, drop, replicate}
-use borrow.Author.Tests.{leb-true, ltb-false}
+use borrow.Author.Tests.{leb-true}
 use Rattle.laws.specs.Search.{pick}
 use Rattle.laws.specs.Units.{Kind, fixed, free, strip}
-use Rattle.laws.specs.Shapes.{Layout, many, shape}
-use Rattle.laws.proofs.Finite.{both-left, both-right}
-use Rattle.words.specs.Said.{saidOf}
+use Rattle.laws.specs.Shapes.{Layout, shape}
+use Rattle.laws.proofs.Finite.{both-left, both-right, both-true}
+use Rattle.laws.proofs.Shapes.{holds-shape}
+use Rattle.words.specs.declared.Answer.the-variants.{ShortForStrip}
 use Rattle.tables.specs.Alphabet.{bitsOf, rowsOf}
 use Rattle.tables.specs.Code39.{table42, chars39, alphabet39, rows39, star39}
 use Rattle.tables.specs.Codabar.{table41, alphabetCodabar, innerRows, letterRows}
@@ -29,10 +28,8 @@ use Rattle.rows.specs.Rows.{Outcome, gives, turned, rowOfField}
 use Rattle.units.specs.Plans.{Plan, code39, codabar, industrial, interleaved, matrix, halves, nothing, plans, planOf, unitsOf, stripOf}
 use Rattle.units.specs.Totals.{elementsOf}
 use Rattle.units.specs.Laid.{elementCount}
-use Rattle.words.specs.declared.Answer.the-variants.{ShortForStrip}
 use Rattle.strip.specs.Drawing.{Call, refused, drawn, onto, drawField}
-use Rattle.strip.proofs.Honest.{Honest, field-honest}
-use Rattle.jobs.specs.Line.{callOf, saidFor}
+use Rattle.jobs.specs.Line.{callOf}
 
 module _ {A : Type 0} (f : A → Bool) where
   abbrev all : List A → Bool
@@ -44,12 +41,9 @@ module _ {A : Type 0} (f : A → Bool) where
   all-at (x ∷ xs) d e g zero = both-left (f x) (all xs) e
   all-at (x ∷ xs) d e g (suc i) = all-at xs d (both-right (f x) (all xs) e) g i
 
-  and-both : (a b : Bool) → a ≡ true → b ≡ true → (a && b) ≡ true
-  and-both a b p q = rw (p, q)
-
   all-both : (xs ys : List A) → all xs ≡ true → all ys ≡ true → all (xs ++ ys) ≡ true
   all-both [] ys p q = q
-  all-both (x ∷ xs) ys p q = and-both (f x) (all (xs ++ ys)) (both-left (f x) (all xs) p) (all-both xs ys (both-right (f x) (all xs) p) q)
+  all-both (x ∷ xs) ys p q = both-true (f x) (all (xs ++ ys)) (both-left (f x) (all xs) p) (all-both xs ys (both-right (f x) (all xs) p) q)
 
   all-drop : (n : ℕ) (xs : List A) → all xs ≡ true → all (drop n xs) ≡ true
   all-drop zero xs p = p
@@ -77,16 +71,12 @@ narrow-strip (free k ∷ ks) (c ∷ cs) e =
     all-both (λ w. leb w 4) (getD k c []) (strip ks cs) (all-at narrow k [] (both-left (all narrow k) (all narrowKind ks) e) refl c)
     (narrow-strip ks cs (both-right (all narrow k) (all narrowKind ks) e))
 
-narrow-many : (n : ℕ) (group rest : List Kind) → all narrowKind group ≡ true → all narrowKind rest ≡ true → all narrowKind (many n group rest) ≡ true
-narrow-many zero group rest p q = q
-narrow-many (suc n) group rest p q = all-both narrowKind group (many n group rest) p (narrow-many n group rest p q)
-
 narrow-shape : (l : Layout) (n : ℕ) → narrowLayout l ≡ true → all narrowKind (shape l n) ≡ true
 narrow-shape l n e =
     let r = both-right (all narrowKind (l .head)) (all narrowKind (l .group) && all narrowKind (l .tail)) e in
-    all-both narrowKind (l .head) (many n (l .group) (l .tail)) (both-left (all narrowKind (l .head)) (all narrowKind (l .group) && all narrowKind (l .tail)) e)
-    (narrow-many n (l .group) (l .tail) (both-left (all narrowKind (l .group)) (all narrowKind (l .tail)) r)
-    (both-right (all narrowKind (l .group)) (all narrowKind (l .tail)) r))
+    holds-shape (λ ks. all narrowKind ks ≡ true) (all-both narrowKind) l n
+    (both-left (all narrowKind (l .head)) (all narrowKind (l .group) && all narrowKind (l .tail)) e)
+    (both-left (all narrowKind (l .group)) (all narrowKind (l .tail)) r) (both-right (all narrowKind (l .group)) (all narrowKind (l .tail)) r)
 
 -- every row of every table
 narrow-plans : all (λ (p : Plan). narrowLayout (p .layout)) plans ≡ true
@@ -118,17 +108,3 @@ unfolding callOf drawField
 narrow-room kind mode count field i =
     leb-true (getD (callOf kind mode count field .buffer) i 0) 4
     (all-at (λ w. leb w 4) (callOf kind mode count field .buffer) 0 (narrow-onto kind (rowOfField kind mode count field)) refl i)
-
-drawn-by : (s : ℕ) (r : List ℕ) (b : Bool) → ltb 339 (elementsOf s (length r)) ≡ b
-    → saidOf (pick b (refused (ShortForStrip (elementCount (elementsOf s (length r)))) zeros) (drawn s r zeros) .answer) .number ≡ 0
-    → saidOf (pick b (refused (ShortForStrip (elementCount (elementsOf s (length r)))) zeros) (drawn s r zeros) .answer) .count ≤ 339
-drawn-by s r true e n = absurd (omega arith)
-drawn-by s r false e n = ltb-false 339 (elementsOf s (length r)) e
-
-drawn-onto : (s : ℕ) (z : Outcome) → Honest z → saidOf (onto s z zeros .answer) .number ≡ 0 → saidOf (onto s z zeros .answer) .count ≤ 339
-drawn-onto s (turned a) h n = absurd (h a refl n)
-drawn-onto s (gives r) h n = drawn-by s r (ltb 339 (elementsOf s (length r))) refl n
-
-pub drawn-room : (kind mode count : ℕ) (field : List ℕ) → saidFor kind mode count field .number ≡ 0 → saidFor kind mode count field .count ≤ 339
-unfolding callOf drawField
-drawn-room kind mode count field n = drawn-onto kind (rowOfField kind mode count field) (field-honest kind mode count field) n

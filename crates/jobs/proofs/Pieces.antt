@@ -1,7 +1,7 @@
 -- What was read before never changes what is printed: however an input is cut into pieces, and whatever room each call has, the loop
 -- prints `run` of the whole input. A call's text is the beginning of what the held bytes print, and what it leaves prints the rest.
 --
---   Halts        what a call's end says: `same`, its text and the run over what is left are the run over all; `why`, how what is
+--   Why, Halts   what a call's end says: `same`, its text and the run over what is left are the run over all; `why`, how what is
 --                left begins; `within`, no more is taken than is held
 --   halts        so it is for every call
 --   goes-on, stops-there     the text of a call, before bytes that are still to come

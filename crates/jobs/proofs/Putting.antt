@@ -12,10 +12,10 @@ use mathlib.Core.Path.{_≡_, refl, sym, ap, _∙_}
 use mathlib.Core.List.{List, [], _∷_, _++_, append-assoc}
 use Prim.Native.Nat.{ℕ, zero, suc, _+_, _-_, _/_, _%_, _<_, _≤_}
 use native.Mathlib.Omega.{arith}
-use native.Mathlib.Nat.{add-zero, zero-add, add-assoc, le-of-suc-le-suc, not-suc-le-zero}
+use native.Mathlib.Nat.{add-zero, zero-add, add-assoc}
 use native.Mathlib.Numerals.{add-one}
 use lib.ListN.{length, getD, take, drop, set, length-append, length-drop, length-map, take-append-drop, drop-of-length-le}
-use lib.Seq.{take-at, drop-append-add, drop-drop, drop-cons, set-split, take-set-le, take-suc-set, drop-set-lt, length-take-le, getD-take}
+use lib.Seq.{take-at, drop-at, drop-append-add, drop-drop, drop-cons, set-split, take-set-le, take-suc-set, drop-set-lt, length-take-le, getD-take}
 use Rattle.jobs.specs.Text.{decimal, widths, putIn, Put, front}
 use Rattle.jobs.proofs.Digits.{few, fixed, digits-fixed}
 
@@ -54,9 +54,7 @@ at-front {out} {text} {q} {next} p = (p .behind ∙ zero-add (length text), p .i
 -- ---- digits, from the last: what is to come stands before what is written
 
 drop-set : (l : List ℕ) (i a : ℕ) → i < length l → drop i (set l i a) ≡ a ∷ drop (suc i) l
-drop-set [] i a h = absurd (not-suc-le-zero h)
-drop-set (x ∷ xs) zero a h = refl
-drop-set (x ∷ xs) (suc i) a h = drop-set xs i a (le-of-suc-le-suc h)
+drop-set l i a h = ap (drop i) (set-split l i a h) ∙ drop-at (take i l) (a ∷ drop (suc i) l) i (length-take-le i l (omega arith))
 
 pub digits-start : (out : List ℕ) (at n k : ℕ) → k ≡ length (decimal n) → take at out ++ (fixed k n ++ drop (at + k) out) ≡ putIn at (decimal n) out
 digits-start out at n k e = rw (e, ← digits-fixed n)

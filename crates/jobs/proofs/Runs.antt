@@ -1,8 +1,8 @@
 -- A run, a record at a time.
 --
---   by-same          what is done by how bytes begin, where it is the same for a whole record
---   whole-is         what a whole record at the front is; `whole-rest`, and what stands behind it
---   run-step, held-step    a run is the first record's line and the run over the rest
+--   by-same          a choice by how bytes begin is the same where it is so for a whole record
+--   Whole, whole-is  what a whole record at the front is; `whole-rest`, and what stands behind it; `shorter`, which is less
+--   run-step, held-step    a run, and a call, are the first record's line and the same over the rest; `heldOn`, that step of a call
 --   front-unknown, front-cut, front-whole    how the bytes from an index on begin, by the tests of the code
 --   Going            the loop over the held bytes: `begun`, `next`, and `ended-all`, `ended-unknown`, `ended-cut`, `ended-full`
 --
@@ -30,7 +30,7 @@ use Rattle.jobs.proofs.Putting.{placed, then, at-front}
 
 -- ---- how bytes begin
 
-pub by-same : {A : Type 0} (z : Front) (a b c : A) (f g : Job → List ℕ → A) → ((x : Job) (rest : List ℕ) → z ≡ whole x rest → f x rest ≡ g x rest)
+by-same : {A : Type 0} (z : Front) (a b c : A) (f g : Job → List ℕ → A) → ((x : Job) (rest : List ℕ) → z ≡ whole x rest → f x rest ≡ g x rest)
     → by z a b c f ≡ by z a b c g
 by-same nothing a b c f g h = refl
 by-same unknown a b c f g h = refl
@@ -135,9 +135,6 @@ module _ (held : List ℕ) (at : ℕ) (h : at < length held) (body : ℕ) (e : b
     pub front-cut : length held - at ≤ body → frontOf (drop at held) ≡ cut
     front-cut l =
         rw (begins, is-kind, lt-leb (bodyOf (getD held at 0)) (length (drop (suc at) held)) (rw length-drop (omega arith)))
-
-    pub body-long : 2 ≤ body
-    body-long = omega (arith, body-field (getD held at 0) is-kind)
 
     pub front-whole : (mode count : ℕ) (field : List ℕ) → body < length held - at → mode ≡ getD held (at + 1) 0 → count ≡ getD held (at + 2) 0
         → field ≡ take (at + 1 + body - (at + 3)) (drop (at + 3) held)

@@ -3,8 +3,8 @@
 --   said-text      five numbers, each with a blank behind it
 --   drawn-shown, refused-shown    the widths of a strip, or -, and the newline
 --   line-text      both are the line of a record
---   room-holds     a drawing's room is what writing its widths wants
 --   line-most      no line is longer than 445 bytes
+--   room-holds     a drawing's room is what writing its widths wants
 --   record-put     the line of a record, from the calls that write it
 --   copied         a word at the buffer's front
 --   end-put, stop-put    the last lines
@@ -18,7 +18,7 @@ use Prim.Native.Nat.{ℕ, _+_, _<_, _≤_}
 use native.Mathlib.Omega.{arith}
 use native.Mathlib.Nat.{zero-add}
 use lib.Dec.{eqb}
-use lib.ListN.{length, getD, take, drop, set, replicate, length-append, length-map, length-set, length-take}
+use lib.ListN.{length, getD, take, set, replicate, length-append, length-map, length-set, length-take}
 use borrow.Author.Tests.{lt-ltb, le-ltb, eq-eqb, ne-eqb, eqb-true}
 use Rattle.laws.specs.Search.{pick}
 use Rattle.words.specs.declared.Said.{Said}
@@ -31,7 +31,8 @@ use Rattle.jobs.specs.Text.{decimal, widths, spaced, Put, front, roomy}
 use Rattle.jobs.specs.Line.{callOf, saidFor, isDrawn, shown, lineSaid, lineOf}
 use Rattle.jobs.specs.Run.{endLine, stopLine}
 use Rattle.jobs.proofs.Digits.{few}
-use Rattle.jobs.proofs.Narrow.{narrow-room, drawn-room}
+use Rattle.jobs.proofs.Narrow.{narrow-room}
+use Rattle.jobs.proofs.Fits.{drawn-room}
 use Rattle.jobs.proofs.Putting.{placed, one, then, same-text, at-front}
 
 -- ---- the line of a record
@@ -92,7 +93,7 @@ module _ (number kind mode count : ℕ) (field : List ℕ) (symbology : ℕ) (an
 
 -- ---- the last lines
 
-pub copied : (out word q : List ℕ) (n : ℕ) → n ≡ length word → n ≤ length out → q ≡ word ++ drop (length word) out → Put out 0 word q n
+pub copied : (out word q : List ℕ) (n : ℕ) → n ≡ length word → n ≤ length out → q ≡ front word out → Put out 0 word q n
 copied out word q n e h w = placed out word q 0 n (omega arith) (w ∙ rw zero-add) (omega arith)
 
 pub end-put : {out p q s : List ℕ} {k n m : ℕ} (records drawn : ℕ) → Put out 0 (text "end ") p k → Put p k (decimal records ++ (32 ∷ [])) q n → Put q n (decimal drawn ++ (10 ∷ [])) s m

@@ -1,6 +1,6 @@
 -- Document 01's example of a job file: "Two Interleaved records, mode 0, data 17 and 417, print exactly".
 --
---   record32   a record of a kind whose field is 32 long: kind, mode, the data and zeros behind them
+--   record32   a record of a kind whose field is 32 long: kind, mode, count, the data and zeros behind them
 --   example    the two records
 --   printed    the three lines
 use mathlib.Core.List.{List, [], _∷_, _++_}

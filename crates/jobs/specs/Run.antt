@@ -14,8 +14,8 @@
 --   Held       what one call takes of the bytes that it is lent: how many, the text, the counts behind it, why it ended
 --   ends, behind    a call that takes nothing, and one that takes a record first
 --   heldRun    one call with so much room. It ends with More where what is left begins a record or is nothing, with Full where
---              the room left is below 445 bytes, the longest line, with Stopped at an unknown kind
---   haltedAt, runOf    how it stands in the code
+--              the room left is below 445 bytes, the longest line, with Stopped at an unknown kind; heldBy, in so many steps
+--   haltedAt, runOf    what a call answers, as it stands in the code
 use mathlib.Core.Bool.{Bool}
 use mathlib.Core.List.{List, [], _∷_, _++_}
 use Prim.Native.Nat.{ℕ, zero, suc, _+_, _-_}

@@ -1,8 +1,9 @@
 // The job file: records to lines (document 01, "Job file").
 //
 // A record is a kind byte and a body whose length the kind fixes. `run_held` takes as many whole records as the bytes that are held
-// and the lent room allow, and prints a line for each; `end_line` and `stop_line` are the last line. What is printed for an input is
-// `run` (specs/Run.antt), however the input is cut into pieces (proofs/Pieces.antt): what was read before never changes a line.
+// and the lent room allow, and prints a line for each; `line` prints that of one record, `end_line` and `stop_line` the last line.
+// What is printed for an input is `run` (specs/Run.antt), however the input is cut into pieces (proofs/Pieces.antt): what was read
+// before never changes a line.
 //
 //   kinds     what follows a kind byte
 //   text      numbers in decimal and widths as digits, written at a place of a buffer

@@ -1,5 +1,5 @@
 // The line of a record, and the last line of a run. No line is longer than 445 bytes: five numbers of at most 20 digits, five blanks,
-// 339 widths and the newline. A buffer that could not hold that is left as it was.
+// 339 widths and the newline. A buffer that could not hold that is left as it was, and 0 is answered.
 use super::kinds;
 use super::text;
 use words::Said;
@@ -75,7 +75,7 @@ pub fn put_line(
     }
 }
 
-// The line of a record: its length.
+// The line of a record at the front of the buffer: its length, as for the last lines.
 pub fn line(number: u64, kind: u8, mode: u8, count: u8, field: &[u8], out: &mut [u8]) -> usize
     ensures { λ r. ⌜ r ≡ length (roomy (length (now (out .entry))) (lineOf number kind mode count (now (field .entry)))) ⌝ }
     ensures { λ _. ⌜ now (out .exit) ≡ front (roomy (length (now (out .entry))) (lineOf number kind mode count (now (field .entry)))) (now (out .entry)) ⌝ }

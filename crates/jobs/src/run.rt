@@ -26,7 +26,7 @@ pub struct Run {
     pub ended: Ended,
 }
 
-// One more. No run is so long that the number stays.
+// One more; the largest number stays, which no run reaches.
 fn counted(n: u64) -> u64
     ensures { λ r. ⌜ r ≡ counted n ⌝ }
 {

@@ -14,7 +14,7 @@ returns-2 c =
     let w = n1 .before .before .before .before in
     let s = w .before .before .before .before .before in
     in-room (w .before .before .before .if1 .left)
-    (end-put (s .args .records) (s .args .drawn)
+    (end-put {q = n1 .put-number .last .1 .1 .0} {s = n2 .put-number2 .last .1 .1 .0} {n = n1 .put-number .result} {m = n2 .put-number2 .result} (s .args .records) (s .args .drawn)
     (copied (s .args .out .now) (text "end ") (w .copy .last .1 .0) (w .copy .result) (w .copy .ensures .0) (omega arith) (w .copy .ensures .1))
     (n1 .put-number .ensures .0) (n2 .put-number2 .ensures .0))
 

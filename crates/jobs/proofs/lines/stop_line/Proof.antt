@@ -13,7 +13,7 @@ returns-2 c =
     let w = n .before .before .before .before in
     let s = w .before .before .before .before .before in
     in-room (w .before .before .before .if1 .left)
-    (stop-put (s .args .records)
+    (stop-put {q = n .put-number .last .1 .1 .0} {n = n .put-number .result} (s .args .records)
     (copied (s .args .out .now) (text "stop ") (w .copy .last .1 .0) (w .copy .result) (w .copy .ensures .0) (omega arith) (w .copy .ensures .1))
     (n .put-number .ensures .0))
 

@@ -5,7 +5,8 @@ use Prim.Native.Nat.{_-_}
 use native.Mathlib.Omega.{arith}
 use lib.ListN.{length}
 use borrow.Author.Needs.{needs}
-use Rattle.jobs.proofs.Runs.{Going, begun, next, ended-all, ended-unknown, ended-cut, ended-full, body-long, front-unknown, front-cut, front-whole}
+use Rattle.jobs.proofs.Bodies.{body-long}
+use Rattle.jobs.proofs.Runs.{Going, begun, next, ended-all, ended-unknown, ended-cut, ended-full, front-unknown, front-cut, front-whole}
 use Rattle.jobs.proofs.run.run_held.Statement.{statement}
 use Rattle.jobs.proofs.run.run_held.Tie as tie
 
@@ -43,27 +44,15 @@ returns-3 c =
 -- a body holds at least mode and count
 shared-slice-read-count : tie.Need-shared-slice-read-count Inv-loop μ-loop
 shared-slice-read-count c =
-    let b = c .before .before .before .before .before in
-    let t = b .before .before in
-    let l = t .before .loop in
-    let a = t .before .before .before .before .args in
-    omega (arith, body-long (a .held .now) (l .taken) (t .loop-test .taken) (b .body-of .result) (b .body-of .ensures) (c .before .before .before .before .if1 .left))
+    omega (arith, body-long _ (c .before .before .before .before .before .body-of .ensures) (c .before .before .before .before .if1 .left))
 
 sub-put-line : tie.Need-sub-put-line Inv-loop μ-loop
 sub-put-line c =
-    let b = c .before .before .before .before .before .before in
-    let t = b .before .before in
-    let l = t .before .loop in
-    let a = t .before .before .before .before .args in
-    omega (arith, body-long (a .held .now) (l .taken) (t .loop-test .taken) (b .body-of .result) (b .body-of .ensures) (c .before .before .before .before .before .if1 .left))
+    omega (arith, body-long _ (c .before .before .before .before .before .before .body-of .ensures) (c .before .before .before .before .before .if1 .left))
 
 part-put-line-start : tie.Need-part-put-line-start Inv-loop μ-loop
 part-put-line-start c =
-    let b = c .before .before .before .before .before .before in
-    let t = b .before .before in
-    let l = t .before .loop in
-    let a = t .before .before .before .before .args in
-    omega (arith, body-long (a .held .now) (l .taken) (t .loop-test .taken) (b .body-of .result) (b .body-of .ensures) (c .before .before .before .before .before .if1 .left))
+    omega (arith, body-long _ (c .before .before .before .before .before .before .body-of .ensures) (c .before .before .before .before .before .if1 .left))
 
 loop-again : tie.Need-loop-again Inv-loop μ-loop
 loop-again c =
