@@ -1,21 +1,26 @@
 -- `limits_of` gives document 01's table: each arm is a line of it.
 -- Assumes nothing.
 use mathlib.Core.Path.{_≡_, refl, sym, ap}
-use mathlib.Core.Bool.{false}
+use mathlib.Core.Bool.{true, false}
+use mathlib.Core.List.{[], _∷_}
 use Prim.Native.Nat.{ℕ, _<_, _≤_}
 use native.Mathlib.Omega.{arith}
 use lib.ListN.{List·getD-eq-default}
 use Rattle.laws.proofs.Finite.{from-at}
-use Rattle.rows.specs.Limits.{_to_, modes, unknown}
+use Rattle.rows.specs.declared.limits.Limits.{Limits}
+use Rattle.rows.specs.Limits.{unknown}
 use Rattle.rows.specs.Checks.{noCheck}
 use Rattle.rows.specs.Symbologies.{Symbology, digits, symbologies, symbologyOf}
 use Rattle.rows.proofs.limits.limits_of.Statement.{statement}
 use Rattle.rows.proofs.limits.limits_of.Tie as tie
 
--- the five that take the same
-five : (s : ℕ) → 1 ≤ s → s < 7 → (s ≡ 3 → ⊥) → modes (1 to 32) (2 to 32) (1 to 31) ≡ symbologyOf s .limits
+-- what five of them take
+abbrev same : Limits
+same = record { known = true; least = 1 ∷ 2 ∷ 1 ∷ []; most = 32 ∷ 32 ∷ 31 ∷ [] }
+
+five : (s : ℕ) → 1 ≤ s → s < 7 → (s ≡ 3 → ⊥) → same ≡ symbologyOf s .limits
 unfolding symbologyOf symbologies
-five = from-at (λ s. (s ≡ 3 → ⊥) → modes (1 to 32) (2 to 32) (1 to 31) ≡ symbologyOf s .limits) 1 6 (λ n. refl, (λ n. refl, (λ n. absurd (n refl), (λ n. refl, (λ n. refl, (λ n. refl, tt))))))
+five = from-at (λ s. (s ≡ 3 → ⊥) → same ≡ symbologyOf s .limits) 1 6 (λ n. refl, (λ n. refl, (λ n. absurd (n refl), (λ n. refl, (λ n. refl, (λ n. refl, tt))))))
 
 other : (s : ℕ) → 7 ≤ s → (s ≡ 7 → ⊥) → (s ≡ 8 → ⊥) → (s ≡ 9 → ⊥) → unknown ≡ symbologyOf s .limits
 unfolding symbologyOf symbologies
