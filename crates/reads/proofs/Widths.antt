@@ -3,12 +3,13 @@
 --   sizeOf    a unit's elements, written out, and the elements and the code of its one pattern, 0 and 0 where it has a set
 --   widthOf   its elements; wide, they are the width of what it may be
 --   long      each row of a unit has so many
---   inside    a unit that reaches no further than the strip, as each arm of `sought_at` asks for it
+--   inside    a unit that reaches no further than the strip
 --   sought-past, sought-there    what is sought at a unit that reaches past the strip's end, and at one that does not
+--   sought-is    so of the unit that stands there
 --   outside   a unit that reaches past the strip's end is in no row
 --
 -- Assumes nothing.
-use mathlib.Core.Path.{_≡_, refl, ap}
+use mathlib.Core.Path.{_≡_, refl, sym, ap, _∙_}
 use mathlib.Core.Bool.{Bool, true, false, not}
 use mathlib.Core.List.{List, []}
 use Prim.Native.Nat.{ℕ, zero, suc, _+_, _<_, _≤_}
@@ -27,7 +28,6 @@ use Rattle.reads.specs.declared.kinds.Unit.{Unit}
 use Rattle.reads.specs.declared.kinds.Unit.the-variants.{Fixed, Char39, Letter, Inner, Industrial, Pair, Matrix, Odd, Left, Right}
 use Rattle.reads.specs.declared.search.Sought.{Sought}
 use Rattle.reads.specs.Held.{NoRow, kindOf, unitAt, nowhere, soughtIn, soughtOf}
-use Rattle.reads.proofs.Modules.{said, denied}
 use Rattle.reads.proofs.Packing.{length-spread, unit-none}
 
 abbrev pub sizeOf : Unit → ℕ × ℕ × ℕ
@@ -71,19 +71,21 @@ long Odd i h = uniform-odd .good .long i h
 long Left i h = uniform-left .good .long i h
 long Right i h = uniform-right .good .long i h
 
--- r is what `reaches` answers for a unit of w elements
-pub inside : (at w n : ℕ) {r : Bool} {u v : Unit} → r ≡ leb (at + w) n → not r ≡ false → w ≡ width (kindOf u) → u ≡ v → at + widthOf v ≤ n
-inside at w n {r} {u} e h f q = rw (← q) (omega (arith, wide u, leb-true (at + w) n (said r _ e h)))
+-- r is what `reaches` answers for a unit
+module _ (u : Unit) (t : List ℕ) (at : ℕ) {r : Bool} (e : r ≡ leb (at + widthOf u) (length t)) where
+  pub inside : r ≡ true → at + widthOf u ≤ length t
+  inside h = leb-true (at + widthOf u) (length t) (sym e ∙ h)
 
-pub sought-past : (t : List ℕ) (at w : ℕ) {r : Bool} {u v : Unit} {q : Sought} → r ≡ leb (at + w) (length t) → not r ≡ true → w ≡ width (kindOf u) → u ≡ v
-    → q ≡ nowhere → q ≡ soughtOf v t at
-unfolding soughtOf
-sought-past t at w {r} {u} {v} e h f g z = rw (z, ← g, ← f, denied r (leb (at + w) (length t)) e h)
+  pub sought-there : {q : Sought} → r ≡ true → q ≡ soughtIn u t at → q ≡ soughtOf u t at
+  unfolding soughtOf
+  sought-there h z = rw (z, wide u, ← e, h)
 
-pub sought-there : (t : List ℕ) (at w : ℕ) {r : Bool} {u v x : Unit} {q : Sought} → r ≡ leb (at + w) (length t) → not r ≡ false → w ≡ width (kindOf u) → u ≡ v
-    → u ≡ x → q ≡ soughtIn x t at → q ≡ soughtOf v t at
-unfolding soughtOf
-sought-there t at w {r} {u} {v} {x} e h f g i z = rw (z, ← g, ← f, said r (leb (at + w) (length t)) e h, i)
+  pub sought-past : {q : Sought} → r ≡ false → q ≡ nowhere → q ≡ soughtOf u t at
+  unfolding soughtOf
+  sought-past h z = rw (z, wide u, ← e, h)
+
+pub sought-is : (t : List ℕ) (at : ℕ) {u v x : Unit} {q : Sought} → u ≡ v → u ≡ x → q ≡ soughtOf x t at → q ≡ soughtOf v t at
+sought-is t at e f z = rw (← e, f) z
 
 pub outside : (u : Unit) (t : List ℕ) (at : ℕ) → leb (at + width (kindOf u)) (length t) ≡ false → 0 < widthOf u → NoRow ≡ unitAt (kindOf u) t at
 outside u t at e z =

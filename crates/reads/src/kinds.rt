@@ -1,7 +1,6 @@
 // Which unit stands where (document 01, "Two-width strips", "EAN and UPC strips"), counted by how many units are left.
 ghost use mathlib.Core.Path.{_≡_};
-ghost use Rattle.laws.specs.Units.{width};
-ghost use Rattle.reads.specs.Held.{kindOf, partedUnit, pairedUnit, halvedUnit, unitOf};
+ghost use Rattle.reads.specs.Held.{partedUnit, pairedUnit, halvedUnit, unitOf};
 
 // What a unit may be: one pattern, by its number of elements and its code, or one row of a set.
 pub enum Unit {
@@ -97,23 +96,5 @@ pub fn unit_of(symbology: u8, units: usize, left: usize) -> Unit
         ),
         7 => halved(Unit::Left, units, left),
         _ => halved(Unit::Odd, units, left),
-    }
-}
-
-// How many elements a unit has.
-pub fn width_of(unit: Unit) -> usize
-    ensures { λ r. ⌜ r ≡ width (kindOf unit) ⌝ }
-{
-    match unit {
-        Unit::Fixed(width, _) => width,
-        Unit::Char39 => 9,
-        Unit::Letter => 7,
-        Unit::Inner => 7,
-        Unit::Industrial => 9,
-        Unit::Pair => 10,
-        Unit::Matrix => 5,
-        Unit::Odd => 4,
-        Unit::Left => 4,
-        Unit::Right => 4,
     }
 }

@@ -211,26 +211,116 @@ fn reaches(strip: &[u8], at: usize, k: usize) -> bool
     }
 }
 
+// Each unit where it reaches no further than the strip, and else nothing. They ask one by one how far, so that the compiler goes from
+// the symbology to the unit's own code in one step.
+fn fixed_in(strip: &[u8], at: usize, width: usize, code: u16) -> Sought
+    requires { ⌜ (width ≤ 9) × (code < 2 ^ width) ⌝ }
+    ensures { λ r. ⌜ r ≡ soughtOf (Fixed width code) (now (strip .entry)) at ⌝ }
+{
+    if reaches(strip, at, width) {
+        return fixed_at(strip, at, width, code);
+    }
+    nowhere()
+}
+
+fn code39_in(strip: &[u8], at: usize) -> Sought
+    ensures { λ r. ⌜ r ≡ soughtOf Char39 (now (strip .entry)) at ⌝ }
+{
+    if reaches(strip, at, 9) {
+        return code39_at(strip, at);
+    }
+    nowhere()
+}
+
+fn letter_in(strip: &[u8], at: usize) -> Sought
+    ensures { λ r. ⌜ r ≡ soughtOf Letter (now (strip .entry)) at ⌝ }
+{
+    if reaches(strip, at, 7) {
+        return letter_at(strip, at);
+    }
+    nowhere()
+}
+
+fn inner_in(strip: &[u8], at: usize) -> Sought
+    ensures { λ r. ⌜ r ≡ soughtOf Inner (now (strip .entry)) at ⌝ }
+{
+    if reaches(strip, at, 7) {
+        return inner_at(strip, at);
+    }
+    nowhere()
+}
+
+fn industrial_in(strip: &[u8], at: usize) -> Sought
+    ensures { λ r. ⌜ r ≡ soughtOf Industrial (now (strip .entry)) at ⌝ }
+{
+    if reaches(strip, at, 9) {
+        return industrial_at(strip, at);
+    }
+    nowhere()
+}
+
+fn pair_in(strip: &[u8], at: usize) -> Sought
+    ensures { λ r. ⌜ r ≡ soughtOf Pair (now (strip .entry)) at ⌝ }
+{
+    if reaches(strip, at, 10) {
+        return pair_at(strip, at);
+    }
+    nowhere()
+}
+
+fn matrix_in(strip: &[u8], at: usize) -> Sought
+    ensures { λ r. ⌜ r ≡ soughtOf Matrix (now (strip .entry)) at ⌝ }
+{
+    if reaches(strip, at, 5) {
+        return matrix_at(strip, at);
+    }
+    nowhere()
+}
+
+fn odd_in(strip: &[u8], at: usize) -> Sought
+    ensures { λ r. ⌜ r ≡ soughtOf Odd (now (strip .entry)) at ⌝ }
+{
+    if reaches(strip, at, 4) {
+        return odd_at(strip, at);
+    }
+    nowhere()
+}
+
+fn left_in(strip: &[u8], at: usize) -> Sought
+    ensures { λ r. ⌜ r ≡ soughtOf Left (now (strip .entry)) at ⌝ }
+{
+    if reaches(strip, at, 4) {
+        return left_at(strip, at);
+    }
+    nowhere()
+}
+
+fn right_in(strip: &[u8], at: usize) -> Sought
+    ensures { λ r. ⌜ r ≡ soughtOf Right (now (strip .entry)) at ⌝ }
+{
+    if reaches(strip, at, 4) {
+        return right_at(strip, at);
+    }
+    nowhere()
+}
+
 // What is sought at a place, where `left` of `units` are not yet read.
 pub fn sought_at(strip: &[u8], at: ElementPlace, symbology: u8, units: usize, left: usize) -> Sought
     ensures { λ r. ⌜ r ≡ soughtOf (unitOf symbology units left) (now (strip .entry)) (at .0) ⌝ }
 {
     let i = at.0;
     let unit = kinds::unit_of(symbology, units, left);
-    if !reaches(strip, i, kinds::width_of(unit)) {
-        return nowhere();
-    }
     match unit {
-        Unit::Fixed(width, code) => fixed_at(strip, i, width, code),
-        Unit::Char39 => code39_at(strip, i),
-        Unit::Letter => letter_at(strip, i),
-        Unit::Inner => inner_at(strip, i),
-        Unit::Industrial => industrial_at(strip, i),
-        Unit::Pair => pair_at(strip, i),
-        Unit::Matrix => matrix_at(strip, i),
-        Unit::Odd => odd_at(strip, i),
-        Unit::Left => left_at(strip, i),
-        Unit::Right => right_at(strip, i),
+        Unit::Fixed(width, code) => fixed_in(strip, i, width, code),
+        Unit::Char39 => code39_in(strip, i),
+        Unit::Letter => letter_in(strip, i),
+        Unit::Inner => inner_in(strip, i),
+        Unit::Industrial => industrial_in(strip, i),
+        Unit::Pair => pair_in(strip, i),
+        Unit::Matrix => matrix_in(strip, i),
+        Unit::Odd => odd_in(strip, i),
+        Unit::Left => left_in(strip, i),
+        Unit::Right => right_in(strip, i),
     }
 }
 

@@ -1,0 +1,17 @@
+-- `industrial_in`: the unit is sought where it reaches no further than the strip.
+-- Assumes nothing.
+use borrow.Author.Needs.{needs}
+use Rattle.reads.specs.declared.kinds.Unit.the-variants.{Industrial}
+use Rattle.reads.proofs.Widths.{inside, sought-there, sought-past}
+use Rattle.reads.proofs.search.industrial_in.Statement.{statement}
+use Rattle.reads.proofs.search.industrial_in.Tie as tie
+
+pub industrial-in-spec : {M : Type 1} → statement M
+industrial-in-spec =
+    tie.close
+    (tie.spec
+    (λ c κs. search needs)
+    (λ c κs. let a = c .before .before .before .args in inside Industrial (a .strip .now) (a .at) (c .before .reaches .ensures) (c .if1 .taken))
+    (λ c. let a = c .before .before .before .before .args in sought-there Industrial (a .strip .now) (a .at) (c .before .before .reaches .ensures) (c .before .if1 .taken) (c .industrial-at .ensures))
+    (λ c κs. search needs)
+    (λ c. let a = c .before .before .before .before .args in sought-past Industrial (a .strip .now) (a .at) (c .before .before .reaches .ensures) (c .before .if1 .left) (c .nowhere .ensures)))

@@ -1,0 +1,17 @@
+-- `matrix_in`: the unit is sought where it reaches no further than the strip.
+-- Assumes nothing.
+use borrow.Author.Needs.{needs}
+use Rattle.reads.specs.declared.kinds.Unit.the-variants.{Matrix}
+use Rattle.reads.proofs.Widths.{inside, sought-there, sought-past}
+use Rattle.reads.proofs.search.matrix_in.Statement.{statement}
+use Rattle.reads.proofs.search.matrix_in.Tie as tie
+
+pub matrix-in-spec : {M : Type 1} → statement M
+matrix-in-spec =
+    tie.close
+    (tie.spec
+    (λ c κs. search needs)
+    (λ c κs. let a = c .before .before .before .args in inside Matrix (a .strip .now) (a .at) (c .before .reaches .ensures) (c .if1 .taken))
+    (λ c. let a = c .before .before .before .before .args in sought-there Matrix (a .strip .now) (a .at) (c .before .before .reaches .ensures) (c .before .if1 .taken) (c .matrix-at .ensures))
+    (λ c κs. search needs)
+    (λ c. let a = c .before .before .before .before .args in sought-past Matrix (a .strip .now) (a .at) (c .before .before .reaches .ensures) (c .before .if1 .left) (c .nowhere .ensures)))
