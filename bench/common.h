@@ -33,6 +33,28 @@ enum {
     X(10, '-', 0x0C) X(11, '$', 0x18) X(12, ':', 0x45) X(13, '/', 0x51) X(14, '.', 0x54) \
     X(15, '+', 0x15) X(16, 'A', 0x1A) X(17, 'B', 0x29) X(18, 'C', 0x0B) X(19, 'D', 0x0E)
 
+/* Characters and their values; entries of the tables from byte to value hold the value plus one, 0 means "none". */
+static const uint8_t code39_char[43] = {
+#define X(v, ch, code) ch,
+    CODE39_ROWS(X)
+#undef X
+};
+static const uint8_t code39_of_char[256] = {
+#define X(v, ch, code) [ch] = v + 1,
+    CODE39_ROWS(X)
+#undef X
+};
+static const uint8_t codabar_char[20] = {
+#define X(v, ch, code) ch,
+    CODABAR_ROWS(X)
+#undef X
+};
+static const uint8_t codabar_of_char[256] = {
+#define X(v, ch, code) [ch] = v + 1,
+    CODABAR_ROWS(X)
+#undef X
+};
+
 /* Full ASCII backwards: the letter behind /, + or % gives the byte, 0 if none does. */
 static const uint8_t item_byte[3][26] = {
     { '!', '"', '#', '$', '%', '&', '\'', '(', ')', '*', '+', ',', 0, 0, '/', [25] = ':' },

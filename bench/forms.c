@@ -49,28 +49,6 @@ static const uint8_t ean_patterns[3][10] = {
 /* The parities by the first digit, E as 1, D2 first. */
 static const uint8_t ean_parities[10] = { 0x00, 0x0B, 0x0D, 0x0E, 0x13, 0x19, 0x1C, 0x15, 0x16, 0x1A };
 
-/* Characters and their values; entries of the tables from byte to value hold the value plus one, 0 means "none". */
-static const uint8_t code39_char[43] = {
-#define X(v, ch, code) ch,
-    CODE39_ROWS(X)
-#undef X
-};
-static const uint8_t code39_of_char[256] = {
-#define X(v, ch, code) [ch] = v + 1,
-    CODE39_ROWS(X)
-#undef X
-};
-static const uint8_t codabar_char[20] = {
-#define X(v, ch, code) ch,
-    CODABAR_ROWS(X)
-#undef X
-};
-static const uint8_t codabar_of_char[256] = {
-#define X(v, ch, code) [ch] = v + 1,
-    CODABAR_ROWS(X)
-#undef X
-};
-
 /* ---- row, sum, limits ---- */
 
 /* The drawn characters: 34 places and their number. */

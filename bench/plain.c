@@ -27,29 +27,9 @@ static const uint8_t code39_value[512] = {
 #undef X
     [STAR_CODE] = STAR + 1
 };
-static const uint8_t code39_char[43] = {
-#define X(v, ch, code) ch,
-    CODE39_ROWS(X)
-#undef X
-};
-static const uint8_t code39_of_char[256] = {
-#define X(v, ch, code) [ch] = v + 1,
-    CODE39_ROWS(X)
-#undef X
-};
 
 static const uint8_t codabar_value[128] = {
 #define X(v, ch, code) [code] = v + 1,
-    CODABAR_ROWS(X)
-#undef X
-};
-static const uint8_t codabar_char[20] = {
-#define X(v, ch, code) ch,
-    CODABAR_ROWS(X)
-#undef X
-};
-static const uint8_t codabar_of_char[256] = {
-#define X(v, ch, code) [ch] = v + 1,
     CODABAR_ROWS(X)
 #undef X
 };
