@@ -30,14 +30,13 @@ use Rattle.laws.specs.Search.{pick, indexIn}
 use Rattle.laws.specs.Units.{free, width}
 use Rattle.laws.proofs.Finite.{both-left, both-right, upto-at, line, From, from-at}
 use Rattle.laws.proofs.Search.{index-hit}
-use Rattle.tables.specs.declared.ean.SetDigit.{SetDigit}
 use Rattle.tables.specs.Alphabet.{Alphabet, size, bitsOf, foundOf}
 use Rattle.tables.specs.Code39.{table42, chars39, alphabet39, rows39}
 use Rattle.tables.specs.Codabar.{table41, alphabetCodabar}
 use Rattle.tables.specs.TwoOfFive.{table44, alphabetDigits, industrialRows, interleavedRows}
-use Rattle.tables.specs.Ean.{table52, patterns, setOf, foundPattern}
+use Rattle.tables.specs.Ean.{table52, patterns}
 use Rattle.tables.proofs.Alphabets.{Proper, found-bits, bits-found, proper39, proper-codabar, proper-digits}
-use Rattle.tables.proofs.Patterns.{three, ten}
+use Rattle.tables.proofs.Patterns.{three, ten, SetDigit, setOf, foundPattern}
 use Rattle.reads.specs.declared.kinds.Unit.{Unit}
 use Rattle.reads.specs.declared.kinds.Unit.the-variants.{Fixed, Char39, Letter, Inner, Industrial, Pair, Matrix, Odd, Left, Right}
 use Rattle.reads.specs.declared.search.Sought.{Sought}
@@ -319,6 +318,6 @@ walk-same s units t (suc n) at g =
     rw (found-unit s units (suc n) t at)
     (ap (λ (go : ℕ → Gathered → Walked). onward (unitAt (kindOf (unitOf s units (suc n))) t at) go g (stop g at (suc n))) (λ i at g. walk-same s units t n at g i))
 
-pub walk-lent : (s units : ℕ) (t codes : List ℕ) {w : Walked} → codes ≡ codesFor s → w ≡ walkBy codes patterns s units t units 0 noneSeen
-    → w ≡ walkFrom s units t units 0 noneSeen
-walk-lent s units t codes e f = f ∙ rw e (walk-same s units t units 0 noneSeen)
+pub walk-lent : (s units : ℕ) (t codes : List ℕ) (sets : List (List ℕ)) {w : Walked} → sets ≡ patterns → codes ≡ codesFor s
+    → w ≡ walkBy codes sets s units t units 0 noneSeen → w ≡ walkFrom s units t units 0 noneSeen
+walk-lent s units t codes sets p e f = f ∙ rw (p, e) (walk-same s units t units 0 noneSeen)

@@ -54,22 +54,22 @@ fn read_units<'a>(
     }
 }
 
-// The walk over the tables, which are copied to locals first: a constant array is built anew wherever it is used.
+// The walk over the tables, which are had once: a constant array is built anew wherever it is used.
 pub fn read_all(strip: &[u8], symbology: u8, units: usize) -> Walked
     ensures { λ r. ⌜ r ≡ walkFrom symbology units (now (strip .entry)) units 0 noneSeen ⌝ }
 {
-    let sets = tables::ean::PATTERNS;
+    let sets = tables::ean::patterns();
     match symbology {
         1 | 2 => {
-            let codes = tables::code39::CODES;
+            let codes = tables::code39::codes();
             read_units(strip, &codes, &sets, symbology, units)
         }
         3 => {
-            let codes = tables::codabar::CODES;
+            let codes = tables::codabar::codes();
             read_units(strip, &codes, &sets, symbology, units)
         }
         _ => {
-            let codes = tables::two_of_five::CODES;
+            let codes = tables::two_of_five::codes();
             read_units(strip, &codes, &sets, symbology, units)
         }
     }

@@ -2,7 +2,7 @@
 --
 --   Proper        no character and no code stands twice, and each character has a code
 --   value-byte, byte-value    bytes and values
---   found-bits, bits-found    codes and values (for the reader: what is drawn and read are rows of elements, Good.antt)
+--   found-bits, bits-found    codes and values
 --   proper39, proper-codabar, proper-digits    the three alphabets
 --
 -- Assumes nothing.

@@ -24,7 +24,8 @@ use Rattle.tables.specs.Alphabet.{bitsOf}
 use Rattle.tables.specs.Code39.{table42, chars39, alphabet39}
 use Rattle.tables.specs.Codabar.{table41, alphabetCodabar}
 use Rattle.tables.specs.TwoOfFive.{table44, alphabetDigits}
-use Rattle.tables.specs.Ean.{table52, patterns, patternOf, foundPattern, parities}
+use Rattle.tables.specs.Ean.{table52, patterns, patternOf, parities}
+use Rattle.tables.proofs.Patterns.{foundPattern}
 
 -- ---- wide elements, elements, modules
 

@@ -7,21 +7,17 @@
 --   even            the bit of a letter: 0 is odd and 1 is even, the number of the set
 --   parities        by D1: six bits, D2's the highest
 --   patternOf       the pattern of a set and a digit, 0 past the table
---   among, setOf    whether one of ten patterns is p; the first set that has it, or 3
---   foundPattern    the set of a pattern and its digit there; set 3 and digit 0 where no set has it
 --   paritiesOf      the parities of a first digit, 0 past 9
 --   firstDigit      the first digit of parities, 10 where none has them
 --   oddRows, evenRows, rightRows, leftRows    the sets as elements; EAN-13's left units come from twenty rows
 --   guard, centre                             the guards 101 and the centre 01010
-use mathlib.Core.Bool.{Bool}
 use mathlib.Core.List.{List, [], _∷_, _++_, map}
 use Prim.Native.Nat.{ℕ}
 use Prim.Native.Char.{code}
 use Prim.Native.String.{String}
-use lib.Dec.{eqb, ltb}
+use lib.Dec.{eqb}
 use lib.ListN.{getD}
-use Rattle.laws.specs.Search.{pick, first, indexIn}
-use Rattle.tables.specs.declared.ean.SetDigit.{SetDigit}
+use Rattle.laws.specs.Search.{pick, indexIn}
 use Rattle.tables.specs.Bits.{runs, number}
 use Rattle.tables.specs.Printed.{text}
 
@@ -59,15 +55,6 @@ parities = map (λ (l : Line). number (map even (l .parities))) table52
 
 unfoldable pub patternOf : ℕ → ℕ → ℕ
 patternOf set digit = getD (getD patterns set []) digit 0
-
-abbrev pub among : ℕ → List ℕ → Bool
-among p ten = ltb (indexIn ten p) 10
-
-abbrev pub setOf : ℕ → ℕ
-setOf p = first (among p) patterns
-
-unfoldable pub foundPattern : ℕ → SetDigit
-foundPattern p = record { set = setOf p; digit = indexIn (getD patterns (setOf p) []) p }
 
 unfoldable pub paritiesOf : ℕ → ℕ
 paritiesOf d = getD parities d 0

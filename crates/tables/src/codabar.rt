@@ -1,13 +1,13 @@
 // Codabar: table 4.1. Values 0 to 15 are the inner characters, 16 to 19 the letters that start and stop.
 ghost use mathlib.Core.Path.{_≡_};
-ghost use Rattle.tables.specs.Alphabet.{valueOf, byteOf, bitsOf, foundOf};
+ghost use Rattle.tables.specs.Alphabet.{valueOf, byteOf};
 ghost use Rattle.tables.specs.Codabar.{alphabetCodabar};
 
 // The characters by value.
-pub const CHARS: [u8; 20] = *b"0123456789-$:/.+ABCD";
+const CHARS: [u8; 20] = *b"0123456789-$:/.+ABCD";
 
 // The seven-bit codes by value: the highest bit is the first bar, and 1 is wide.
-pub const CODES: [u16; 20] = [
+const CODES: [u16; 20] = [
     0b0000011,
     0b0000110,
     0b0001001,
@@ -54,17 +54,9 @@ pub fn byte(value: u8) -> u8
     if value < 20 { CHARS[value as usize] } else { 0 }
 }
 
-// The code of a value, or 0.
-pub fn bits(value: u8) -> u16
-    ensures { λ r. ⌜ r ≡ bitsOf alphabetCodabar value ⌝ }
+// The codes by value.
+pub fn codes() -> [u16; 20]
+    ensures { λ r. ⌜ r ≡ alphabetCodabar .codes ⌝ }
 {
-    if value < 20 { CODES[value as usize] } else { 0 }
-}
-
-// The value of a code, or 20.
-pub fn found(code: u16) -> u8
-    ensures { λ r. ⌜ r ≡ foundOf alphabetCodabar code ⌝ }
-{
-    let codes = CODES;
-    laws::index_in(&codes, code) as u8
+    CODES
 }

@@ -1,13 +1,13 @@
 // Code 39: tables 4.2 and 4.3. Values 0 to 42 are the characters, 43 is the star.
 ghost use mathlib.Core.Path.{_≡_};
-ghost use Rattle.tables.specs.Alphabet.{valueOf, byteOf, bitsOf, foundOf};
+ghost use Rattle.tables.specs.Alphabet.{valueOf, byteOf};
 ghost use Rattle.tables.specs.Code39.{alphabet39};
 
 // The characters by value.
-pub const CHARS: [u8; 43] = *b"0123456789ABCDEFGHIJKLMNOPQRSTUVWXYZ-. $/+%";
+const CHARS: [u8; 43] = *b"0123456789ABCDEFGHIJKLMNOPQRSTUVWXYZ-. $/+%";
 
 // The nine-bit codes by value: the highest bit is the first bar, and 1 is wide.
-pub const CODES: [u16; 44] = [
+const CODES: [u16; 44] = [
     0b000110100,
     0b100100001,
     0b001100001,
@@ -79,17 +79,9 @@ pub fn byte(value: u8) -> u8
     if value < 43 { CHARS[value as usize] } else { 0 }
 }
 
-// The code of a value, or 0.
-pub fn bits(value: u8) -> u16
-    ensures { λ r. ⌜ r ≡ bitsOf alphabet39 value ⌝ }
+// The codes by value; the 44th is the star's.
+pub fn codes() -> [u16; 44]
+    ensures { λ r. ⌜ r ≡ alphabet39 .codes ⌝ }
 {
-    if value < 44 { CODES[value as usize] } else { 0 }
-}
-
-// The value of a code, or 43: the star is no character.
-pub fn found(code: u16) -> u8
-    ensures { λ r. ⌜ r ≡ foundOf alphabet39 code ⌝ }
-{
-    let codes = CODES;
-    laws::index_in(&codes[..43], code) as u8
+    CODES
 }

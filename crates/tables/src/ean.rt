@@ -1,9 +1,9 @@
 // EAN-13, EAN-8 and UPC-A: table 5.2. Sets are 0, left odd, 1, left even, and 2, right.
 ghost use mathlib.Core.Path.{_≡_};
-ghost use Rattle.tables.specs.Ean.{patternOf, foundPattern, paritiesOf, firstDigit};
+ghost use Rattle.tables.specs.Ean.{patterns, paritiesOf, firstDigit};
 
 // The three sets of ten patterns, by set and digit: seven modules, the highest bit is the first, and 1 is a bar module.
-pub const PATTERNS: [[u16; 10]; 3] = [
+const PATTERNS: [[u16; 10]; 3] = [
     [
         0b0001101,
         0b0011001,
@@ -43,7 +43,7 @@ pub const PATTERNS: [[u16; 10]; 3] = [
 ];
 
 // The parities of D2 to D7 by D1: the highest bit is D2's, and 1 is even.
-pub const PARITIES: [u16; 10] = [
+const PARITIES: [u16; 10] = [
     0b000000,
     0b001011,
     0b001101,
@@ -56,42 +56,11 @@ pub const PARITIES: [u16; 10] = [
     0b011010,
 ];
 
-// A set and a digit of it. Set 3 stands for "in no set", with digit 0.
-pub struct SetDigit {
-    pub set: u8,
-    pub digit: u8,
-}
-
-// The pattern of a digit in a set, or 0.
-pub fn pattern_of(set: u8, digit: u8) -> u16
-    ensures { λ r. ⌜ r ≡ patternOf set digit ⌝ }
+// The patterns by set and digit.
+pub fn patterns() -> [[u16; 10]; 3]
+    ensures { λ r. ⌜ r ≡ patterns ⌝ }
 {
-    if set < 3 {
-        if digit < 10 {
-            return PATTERNS[set as usize][digit as usize];
-        }
-    }
-    0
-}
-
-// The set and the digit of a pattern.
-pub fn found_pattern(pattern: u16) -> SetDigit
-    ensures { λ r. ⌜ r ≡ foundPattern pattern ⌝ }
-{
-    let sets = PATTERNS;
-    let mut set = 0;
-    while set < 3 {
-        let ten = sets[set];
-        let digit = laws::index_in(&ten, pattern);
-        if digit < 10 {
-            return SetDigit {
-                set: set as u8,
-                digit: digit as u8,
-            };
-        }
-        set += 1;
-    }
-    SetDigit { set: 3, digit: 0 }
+    PATTERNS
 }
 
 // The parities that carry a first digit, or 0.

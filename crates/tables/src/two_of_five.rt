@@ -1,10 +1,10 @@
 // Industrial, Interleaved and Matrix 2 of 5: tables 4.4 to 4.6, and the digits, which EAN and UPC share.
 ghost use mathlib.Core.Path.{_≡_};
-ghost use Rattle.tables.specs.Alphabet.{valueOf, byteOf, bitsOf, foundOf};
+ghost use Rattle.tables.specs.Alphabet.{valueOf, byteOf, foundOf};
 ghost use Rattle.tables.specs.TwoOfFive.{alphabetDigits};
 
 // The five-bit codes by digit: the highest bit is the first element that carries the digit, and 1 is wide.
-pub const CODES: [u16; 10] = [
+const CODES: [u16; 10] = [
     0b00110,
     0b10001,
     0b01001,
@@ -34,11 +34,11 @@ pub fn byte(value: u8) -> u8
     if value < 10 { b'0' + value } else { 0 }
 }
 
-// The code of a digit, or 0.
-pub fn bits(value: u8) -> u16
-    ensures { λ r. ⌜ r ≡ bitsOf alphabetDigits value ⌝ }
+// The codes by digit.
+pub fn codes() -> [u16; 10]
+    ensures { λ r. ⌜ r ≡ alphabetDigits .codes ⌝ }
 {
-    if value < 10 { CODES[value as usize] } else { 0 }
+    CODES
 }
 
 // The digit of a code, or 10.

@@ -1,17 +1,15 @@
--- `read_all`: the constants compute to the tables, each arm lends the codes of its symbology, and the walk over them is the walk over
--- units.
+-- `read_all`: each arm lends the codes of its symbology, and the walk over them is the walk over units.
 -- Assumes nothing.
-use mathlib.Core.Path.{_≡_, refl, sym}
+use mathlib.Core.Path.{_≡_, refl, sym, _∙_}
 use mathlib.Core.Logic.{⊎-elim}
 use Prim.Native.Nat.{ℕ, _<_, _≤_}
 use native.Mathlib.Omega.{arith}
 use lib.ListN.{List·getD-eq-default}
 use borrow.Author.Needs.{needs}
 use Rattle.laws.proofs.Finite.{from-at}
-use Rattle.tables.specs.Code39.{table42, chars39, alphabet39}
-use Rattle.tables.specs.Codabar.{table41, alphabetCodabar}
-use Rattle.tables.specs.TwoOfFive.{table44, alphabetDigits}
-use Rattle.tables.specs.Ean.{table52, patterns}
+use Rattle.tables.specs.Code39.{alphabet39}
+use Rattle.tables.specs.Codabar.{alphabetCodabar}
+use Rattle.tables.specs.TwoOfFive.{alphabetDigits}
 use Rattle.reads.specs.Held.{codesBy, codesFor}
 use Rattle.reads.proofs.Seeking.{walk-lent}
 use Rattle.reads.proofs.walk.read_all.Statement.{statement}
@@ -35,35 +33,39 @@ unfolding codesFor codesBy
 other s h n = sym (List·getD-eq-default codesBy (alphabetDigits .codes) {n = s} (omega arith))
 
 returns : tie.Need-returns
-unfolding alphabetCodabar table41 patterns table52
 returns c =
-    let a = c .before .before .before .before .before .args in
-    walk-lent (a .symbology) (a .units) (a .strip .now) (alphabetCodabar .codes) (as-codabar _ (c .before .before .before .match .keys1)) (c .read-units .ensures)
-
-returns-2 : tie.Need-returns-2
-unfolding alphabet39 chars39 table42 patterns table52
-returns-2 c =
     let d = c .before .before .before in
     let a = d .before .before .before .before .args in
-    walk-lent (a .symbology) (a .units) (a .strip .now) (alphabet39 .codes) (as39 _ (d .before .if1 .left) (d .if2 .taken)) (c .read-units2 .ensures)
+    walk-lent (a .symbology) (a .units) (a .strip .now) _ _ (d .before .before .patterns .ensures) (d .codes .ensures ∙ as-codabar _ (d .before .match .keys1)) (c .read-units .ensures)
+
+returns-2 : tie.Need-returns-2
+returns-2 c =
+    let d = c .before .before .before in
+    let e = d .before in
+    let a = e .before .before .before .before .before .args in
+    walk-lent (a .symbology) (a .units) (a .strip .now) _ _ (e .before .before .before .patterns .ensures) (d .codes3 .ensures ∙ as39 _ (e .before .if1 .left) (e .if2 .taken)) (c .read-units2 .ensures)
 
 returns-3 : tie.Need-returns-3
-unfolding alphabetDigits table44 patterns table52
 returns-3 c =
     let d = c .before .before .before in
-    let a = d .before .before .before .args in
-    walk-lent (a .symbology) (a .units) (a .strip .now) (alphabetDigits .codes)
-    (⊎-elim (λ w. none _ (w .taken)) (λ w. other _ (w .1 .left) (d .before .match .rest .1)) (d .if1 .came)) (c .read-units3 .ensures)
+    let e = d .before in
+    let a = e .before .before .before .before .args in
+    walk-lent (a .symbology) (a .units) (a .strip .now) _ _ (e .before .before .patterns .ensures)
+    (d .codes5 .ensures ∙ ⊎-elim (λ w. none _ (w .taken)) (λ w. other _ (w .1 .left) (e .before .match .rest .1)) (e .if1 .came)) (c .read-units3 .ensures)
 
 pub read-all-spec : {M : Type 1} → statement M
 read-all-spec =
     tie.close
     (tie.spec
-    (λ c. search needs)
-    (λ c. search needs)
+    (λ c κs. search needs)
     (λ c κs. search needs)
     (λ c. search needs)
     (λ c. search needs)
+    (λ c κs. search needs)
+    (λ c κs. search needs)
+    (λ c. search needs)
+    (λ c. search needs)
+    (λ c κs. search needs)
     (λ c κs. search needs)
     (λ c. search needs)
     (λ c. search needs)
