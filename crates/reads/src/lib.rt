@@ -30,7 +30,6 @@ ghost use mathlib.Core.Bool.{true};
 ghost use Prim.Native.Nat.{ℕ, _<_, _≤_};
 ghost use Rattle.laws.specs.Units.{read};
 ghost use Rattle.rows.specs.declared.drawing.Verdict.the-variants.{Given};
-ghost use Rattle.rows.specs.Rows.{turned};
 ghost use Rattle.rows.specs.Held.{told};
 ghost use Rattle.units.specs.Plans.{unitsOf};
 ghost use Rattle.units.specs.Laid.{counted};
@@ -43,7 +42,7 @@ pub fn row_seen(symbology: u8, mode: u8, strip: &[u8]) -> Rowed
 {
     let n = counts::count_for(symbology, strip.len());
     match rows::judge_count(symbology, mode, n) {
-        Verdict::Turned(answer) => turn_away(answer),
+        Verdict::Turned(answer) => rows::turn_away(answer),
         Verdict::Given => read_strip(symbology, n, strip),
     }
 }
@@ -56,7 +55,7 @@ fn read_strip(symbology: u8, n: usize, strip: &[u8]) -> Rowed
     let walked = walk::read_all(strip, symbology, counts::unit_count(symbology, n));
     let at = walked.at;
     if 0 < walked.left {
-        return turn_away(Answer::NoSuchUnit(at));
+        return rows::turn_away(Answer::NoSuchUnit(at));
     }
     let gathered = walked.gathered;
     judge(symbology, n, gather::words_of(gathered))
@@ -70,7 +69,7 @@ fn judge(symbology: u8, n: usize, words: [u64; 5]) -> Rowed
     if symbology == 7 {
         let first = tables::ean::first_digit(chars::parities(words));
         if 9 < first {
-            return turn_away(Answer::NoSuchParities);
+            return rows::turn_away(Answer::NoSuchParities);
         }
         return give(chars::row_back(symbology, n, words, first));
     }
@@ -83,17 +82,5 @@ fn give(row: Row) -> Rowed
     Rowed {
         verdict: Verdict::Given,
         row,
-    }
-}
-
-fn turn_away(answer: Answer) -> Rowed
-    ensures { λ r. ⌜ r ≡ told (turned answer) ⌝ }
-{
-    Rowed {
-        verdict: Verdict::Turned(answer),
-        row: Row {
-            codes: [0; 34],
-            len: 0,
-        },
     }
 }

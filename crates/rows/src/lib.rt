@@ -1,8 +1,10 @@
 // Data to row and row to data: the first of the two translations (document 01, "Turned away", "Checks", "Full ASCII").
 //
-// A row is the drawn characters as values of their alphabet, at most 34 with their number. `row_of` draws data as a row or
-// turns them away with the first of 1, 2, 3, 4, 5, 6, 7 that applies; `row_of_field` does so for a job record's field, with 13
-// behind 3; `data_of` hands a row's data back, or turns the row away with the first of 1, 2, 9, 12, 7, 8.
+// A row is the drawn characters as values of their alphabet, at most 34 with their number. `row_of_field` draws data, which may
+// stand in a longer field, as a row, or turns them away with the first of 1, 2, 3, 13, 4, 5, 6, 7 that applies; `data_of` hands a
+// row's data back, or turns the row away with the first of 1, 2, 9, 12, 7, 8.
+//
+// What drawing and reading strips need of the same facts they have from here: `judge_count`, `size_of`, `turn_away`.
 //
 // The main property (proofs/Undo.antt): `rowOf s m d` gives r exactly if `dataOf s m r` gives d.
 mod check;
@@ -14,35 +16,17 @@ mod reading;
 mod row;
 mod spelling;
 
+pub use coder::size_of;
 pub use drawing::Rowed;
 pub use drawing::Verdict;
+pub use drawing::row_of_field;
+pub use drawing::turn_away;
 pub use reading::Handed;
+pub use reading::judge_count;
 pub use row::Row;
 ghost use mathlib.Core.Path.{_≡_};
 ghost use lib.ListN.{length};
-ghost use Rattle.rows.specs.Rows.{rowOf, rowOfField};
-ghost use Rattle.rows.specs.Held.{told, judgedCount, dataOfRow, handedOf, written};
-
-// The row of data.
-pub fn row_of(symbology: u8, mode: u8, text: &[u8]) -> Rowed
-    ensures { λ r. ⌜ r ≡ told (rowOf symbology mode (now (text .entry))) ⌝ }
-{
-    drawing::row_of_field(symbology, mode, text.len(), text)
-}
-
-// The row of a job record's field, of which `count` bytes are data and the others must be zero.
-pub fn row_of_field(symbology: u8, mode: u8, count: usize, field: &[u8]) -> Rowed
-    ensures { λ r. ⌜ r ≡ told (rowOfField symbology mode count (now (field .entry))) ⌝ }
-{
-    drawing::row_of_field(symbology, mode, count, field)
-}
-
-// 1, 2, 9: whether a mode of a symbology can give so many drawn characters.
-pub fn judge_count(symbology: u8, mode: u8, n: usize) -> Verdict
-    ensures { λ r. ⌜ r ≡ judgedCount symbology mode n ⌝ }
-{
-    reading::judge_count(symbology, mode, n)
-}
+ghost use Rattle.rows.specs.Held.{dataOfRow, handedOf, written};
 
 // The data of a row, in the lent buffer.
 pub fn data_of(symbology: u8, mode: u8, row: Row, out: &mut [u8]) -> Handed

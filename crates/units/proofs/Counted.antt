@@ -2,6 +2,7 @@
 -- fact is a test of 35 numbers.
 --
 --   counted-few       at most 34
+--   inSteps           whether a count lies between two and is a multiple of a third
 --   Counts, counts1 to counts9    by symbology number: the counts up to 34, by one computed test each
 --   counted-39, counted-full, counted-codabar, counted-industrial, counted-interleaved, counted-matrix    by symbology: from .. to ..
 --   counted-even      in Interleaved an even number
@@ -29,7 +30,6 @@ use Rattle.rows.proofs.Numbers.{room-small}
 use Rattle.rows.proofs.Proper.{Counts as ModeCounts, proper}
 use Rattle.rows.proofs.Undo.{held}
 use Rattle.units.specs.Laid.{counts, counted}
-use Rattle.units.specs.Room.{inSteps}
 
 -- ---- at most 34
 
@@ -53,6 +53,9 @@ counted-few s n =
     (either (counts (symbologyOf s) n 1) (counts (symbologyOf s) n 2) (counts-few s n 1) (counts-few s n 2))
 
 -- ---- by symbology
+
+abbrev pub inSteps : ℕ → ℕ → ℕ → ℕ → Bool
+inSteps least most step n = (leb least n && leb n most) && eqb (n % step) 0
 
 -- up to 34 the counts are those from one number to another, in steps
 abbrev pub Counts : ℕ → ℕ → ℕ → ℕ → Type 0

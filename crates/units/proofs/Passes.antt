@@ -1,11 +1,9 @@
 -- How the code checks a row and counts its modules: test by test, and one character a turn.
 --
 --   no-first, past-first    a conjunction by its first test: false where that fails, and else what is left
---   too-few, too-many, in-steps    a count against its bounds
---   one-two, four-six    the symbologies that are counted as Code 39
---   uncounted, Unmatched, uncounted-past    the numbers that count nothing
+--   first-of, past-of    a disjunction likewise
+--   asked        a mode gives a count exactly if the verdict on the count is no refusal; counted-is, some mode, one after the other
 --   last-arm     the numbers that have no arm of their own: 7 and 9
---   sized-39, sized-digits    the size of a set
 --   left-cons    the characters that are left, one of them taken
 --   too-low, too-high, passed, all-passed    the loop over characters of one range
 --   lettered-at    Codabar: the first, the inner ones, the last
@@ -14,31 +12,30 @@
 --   Sum, sum-start, sum-more, sum-end, codabar-some    the loop over Codabar's characters, and that it counts something
 --
 -- Assumes nothing.
-use mathlib.Core.Path.{_≡_, refl, sym, _∙_}
-use mathlib.Core.Bool.{Bool, true, false, _&&_, not, and-true, and-assoc}
+use mathlib.Core.Path.{_≡_, refl, sym, ap, _∙_}
+use mathlib.Core.Bool.{Bool, true, false, _&&_, _||_, not, and-true, and-assoc}
 use mathlib.Core.List.{List, [], _∷_, _++_}
-use mathlib.Core.Logic.{_⊎_, inl, inr}
-use Prim.Native.Nat.{ℕ, zero, suc, _+_, _*_, _-_, _%_, _<_, _≤_}
+use Prim.Native.Nat.{ℕ, zero, suc, _+_, _*_, _-_, _<_, _≤_}
 use native.Mathlib.Omega.{arith}
 use native.Mathlib.Nat.{zero-add}
 use native.Mathlib.Numerals.{add-one}
-use lib.Dec.{eqb, ltb, leb}
+use lib.Dec.{ltb, leb}
 use lib.ListN.{length, getD, take, drop}
 use lib.Seq.{length-take-le, drop-cons, take-suc}
 use borrow.Author.Tests.{lt-ltb, le-ltb, le-leb, lt-leb, ne-eqb}
 use Rattle.laws.specs.Search.{pick}
-use Rattle.laws.proofs.Finite.{from-at}
 use Rattle.laws.proofs.Arms.{Off}
 use Rattle.tables.specs.Alphabet.{size}
-use Rattle.tables.specs.Code39.{chars39, alphabet39}
-use Rattle.tables.specs.TwoOfFive.{table44, alphabetDigits}
+use Rattle.rows.specs.declared.drawing.Verdict.{Verdict}
+use Rattle.rows.specs.Limits.{offered}
 use Rattle.rows.specs.Symbologies.{symbologies, symbologyOf}
-use Rattle.rows.proofs.Numbers.{others}
-use Rattle.units.specs.Laid.{counted, allAllowed, ready}
-use Rattle.units.specs.Room.{inSteps, allIn}
+use Rattle.rows.specs.Rows.{drawable}
+use Rattle.rows.specs.Held.{judge, judgedCount}
+use Rattle.units.specs.Laid.{counts, isGiven, counted, allAllowed, ready}
+use Rattle.units.specs.Room.{allIn}
 use Rattle.units.specs.Totals.{ofCodabar}
-use Rattle.units.proofs.Ready.{allowed-in}
-use Rattle.units.proofs.Counted.{counted-codabar, known, by-number, counts1, counts2, counts4, counts6}
+use Rattle.units.proofs.Ready.{counted-by, allowed-in}
+use Rattle.units.proofs.Counted.{counted-codabar, by-number}
 use Rattle.units.proofs.Given.{count, not-end, at-start}
 
 -- ---- a conjunction by its first test, which a call answered
@@ -53,53 +50,39 @@ past-first x true b r e q n = e
 past-first x false b true e q n = cc
 past-first x false b false e q n = cc
 
+pub first-of : (x a b r : Bool) → x ≡ (a || b) → r ≡ a → r ≡ true → true ≡ x
+first-of x true b r e q t = sym e
+first-of x false b r e q t = cc
+
+pub past-of : (x a b r : Bool) → x ≡ (a || b) → r ≡ a → r ≡ false → x ≡ b
+past-of x true b r e q t = cc
+past-of x false b r e q t = e
+
 -- ---- counts
 
-module _ (least most step n : ℕ) where
-  pub too-few : n < least → false ≡ inSteps least most step n
-  too-few h = rw (lt-leb least n h)
+judged-by : (known offers draws : Bool) → ((offers && draws) ≡ true → known ≡ true) → isGiven (judge (not known) (not offers) (not draws)) ≡ (offers && draws)
+judged-by true true true f = refl
+judged-by true true false f = refl
+judged-by true false draws f = refl
+judged-by false true true f = f refl
+judged-by false true false f = refl
+judged-by false false draws f = refl
 
-  pub too-many : least ≤ n → most < n → false ≡ inSteps least most step n
-  too-many h k = rw (le-leb least n h, lt-leb n most k)
+judged : (s n m : ℕ) → m < 3 → isGiven (judgedCount s m n) ≡ counts (symbologyOf s) n m
+unfolding judgedCount symbologyOf symbologies
+judged s n m h =
+    judged-by (symbologyOf s .limits .known) (offered (symbologyOf s .limits) m) (drawable (symbologyOf s) m n)
+    (λ e. by-number (λ s. symbologyOf s .limits .known ≡ true) (refl, (refl, (refl, (refl, (refl, (refl, (refl, (refl, (refl, tt))))))))) s n (counted-by s n m h e))
 
-  pub in-steps : least ≤ n → n ≤ most → eqb (n % step) 0 ≡ inSteps least most step n
-  in-steps h k = rw (le-leb least n h, le-leb n most k)
+-- what the code asks of a mode: v is the verdict, r whether it is no refusal
+pub asked : (s n m : ℕ) → m < 3 → (v : Verdict) (r : Bool) → v ≡ judgedCount s m n → r ≡ isGiven v → r ≡ counts (symbologyOf s) n m
+asked s n m h v r e q = q ∙ ap isGiven e ∙ judged s n m h
 
--- ---- the arms that take more than one number
+pub counted-is : (s n : ℕ) → counted s n ≡ (counts (symbologyOf s) n 0 || (counts (symbologyOf s) n 1 || counts (symbologyOf s) n 2))
+unfolding counted
+counted-is s n = refl
 
-pub one-two : (s n : ℕ) → n ≤ 34 → 1 ≤ s → s < 3 → inSteps 1 32 1 n ≡ counted s n
-one-two s n h = from-at (λ s. inSteps 1 32 1 n ≡ counted s n) 1 2 (sym (counts1 n h), (sym (counts2 n h), tt)) s
-
-pub four-six : (s n : ℕ) → n ≤ 34 → (s ≡ 4) ⊎ (s ≡ 6) → inSteps 1 32 1 n ≡ counted s n
-four-six s n h (inl e) = rw e (sym (counts4 n h))
-four-six s n h (inr e) = rw e (sym (counts6 n h))
-
-unless : (b : Bool) → (b ≡ true → ⊥) → false ≡ b
-unless true f = absurd (f refl)
-unless false f = refl
-
-pub uncounted : (s n : ℕ) → ((0 < s) × (s < 10) → ⊥) → false ≡ counted s n
-uncounted s n f = unless (counted s n) (λ e. f (known s n e))
-
--- none of the arms for 3 to 9, as the checker hands it over
-abbrev pub Unmatched : ℕ → Type 0
-Unmatched s = (((((Unit {0} × ((s ≡ 4) ⊎ (s ≡ 6) → ⊥)) × (s ≡ 3 → ⊥)) × (s ≡ 5 → ⊥)) × (s ≡ 7 → ⊥)) × (s ≡ 8 → ⊥)) × (s ≡ 9 → ⊥)
-
-three-to-nine : (s : ℕ) → 3 ≤ s → s < 10 → Unmatched s → ⊥
-three-to-nine =
-    from-at (λ s. Unmatched s → ⊥) 3 7 (
-      λ o. o .0 .0 .0 .0 .1 refl,
-      (
-        λ o. o .0 .0 .0 .0 .0 .1 (inl refl),
-        (
-          λ o. o .0 .0 .0 .1 refl,
-          (λ o. o .0 .0 .0 .0 .0 .1 (inr refl), (λ o. o .0 .0 .1 refl, (λ o. o .0 .1 refl, (λ o. o .1 refl, tt)))),
-        ),
-      ),
-    )
-
-pub uncounted-past : (s n : ℕ) → 3 ≤ s → Unmatched s → false ≡ counted s n
-uncounted-past s n h o = uncounted s n (λ k. three-to-nine s h (k .1) o)
+-- ---- the arm that takes more than one number
 
 pub last-arm : (P : ℕ → Type 0) → P 7 → P 9 → (s n : ℕ) → counted s n ≡ true → 3 ≤ s → Off (8 ∷ 6 ∷ 5 ∷ 4 ∷ 3 ∷ []) s → P s
 last-arm P p q =
@@ -116,14 +99,6 @@ last-arm P p q =
         ),
       ),
     )
-
-pub sized-39 : (s : ℕ) → 1 ≤ s → s < 3 → 43 ≡ size (symbologyOf s .alphabet)
-unfolding symbologyOf symbologies alphabet39 chars39
-sized-39 = from-at (λ s. 43 ≡ size (symbologyOf s .alphabet)) 1 2 (refl, (refl, tt))
-
-pub sized-digits : (s : ℕ) → (s ≡ 1 → ⊥) → (s ≡ 2 → ⊥) → (s ≡ 3 → ⊥) → 10 ≡ size (symbologyOf s .alphabet)
-unfolding alphabetDigits table44
-sized-digits s a b c = rw (others s a b c .alphabet)
 
 -- ---- the characters that are left
 

@@ -2,6 +2,7 @@
 --
 --   charsOf     the characters of a row as the code holds it; none where its number passes its places
 --   counts, counted    a mode, and some mode that is offered, gives so many drawn characters
+--   isGiven     a verdict on a count that is no refusal
 --   allowed     a character where it stands: of its set, in Codabar a letter at the ends and another inside; allAllowed, each of a row
 --   ready       a row of the symbology: its count and every character
 --   elementCount, moduleCount    a number as a count of elements, or of modules
@@ -17,6 +18,8 @@ use Rattle.laws.specs.Spelling.{atEnd}
 use Rattle.words.specs.declared.Elements.{Elements}
 use Rattle.words.specs.declared.Modules.{Modules}
 use Rattle.tables.specs.Alphabet.{size}
+use Rattle.rows.specs.declared.drawing.Verdict.{Verdict}
+use Rattle.rows.specs.declared.drawing.Verdict.the-variants.{Given, Turned}
 use Rattle.rows.specs.declared.row.Row.{Row}
 use Rattle.rows.specs.Limits.{offered}
 use Rattle.rows.specs.Coders.{placed}
@@ -35,6 +38,10 @@ counts y n m = offered (y .limits) m && drawable y m n
 
 unfoldable pub counted : ℕ → ℕ → Bool
 counted s n = counts (symbologyOf s) n 0 || (counts (symbologyOf s) n 1 || counts (symbologyOf s) n 2)
+
+abbrev pub isGiven : Verdict → Bool
+isGiven Given = true
+isGiven (Turned a) = false
 
 abbrev pub allowed : ℕ → Bool → ℕ → Bool
 allowed s end c = pick (eqb s 3) (placed end c) (ltb c (size (symbologyOf s .alphabet)))

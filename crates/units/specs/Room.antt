@@ -9,12 +9,11 @@
 --   pairsIn     pairs one behind the other, woven of their digits
 --   sideAt      the set of EAN-13's unit i
 --   leftIn, rightIn    a guard, half the units, the centre; the other half from the right set, a guard
---   inSteps     whether a count lies between two and is a multiple of a third
 --   allIn       whether every value lies from one up to below another
 use mathlib.Core.Bool.{Bool, true, _&&_}
 use mathlib.Core.List.{List, [], _∷_, _++_, map}
 use Prim.Native.Nat.{ℕ, _+_, _*_, _-_, _%_, _≤_}
-use lib.Dec.{eqb, ltb, leb}
+use lib.Dec.{ltb, leb}
 use lib.ListN.{take, drop}
 use Rattle.units.specs.declared.layout.Ends.{Ends}
 use Rattle.laws.specs.Search.{pick}
@@ -79,9 +78,6 @@ leftIn t cs = cut t 120 3 ++ unitsIn t 0 4 cs ++ cut t 123 5
 
 abbrev pub rightIn : List ℕ → List ℕ → List ℕ
 rightIn t cs = unitsIn t 80 4 cs ++ cut t 120 3
-
-abbrev pub inSteps : ℕ → ℕ → ℕ → ℕ → Bool
-inSteps least most step n = (leb least n && leb n most) && eqb (n % step) 0
 
 abbrev pub allIn : ℕ → ℕ → List ℕ → Bool
 allIn low high [] = true

@@ -1,41 +1,33 @@
 // Whether a row is one of its symbology: its count and each character.
+use rows::Verdict;
 ghost use mathlib.Core.Path.{_≡_};
 ghost use mathlib.Core.Bool.{true};
-ghost use Prim.Native.Nat.{_-_, _<_, _≤_};
+ghost use Prim.Native.Nat.{_-_, _≤_};
 ghost use lib.ListN.{length, take, drop};
-ghost use Rattle.tables.specs.Alphabet.{size};
-ghost use Rattle.rows.specs.Symbologies.{symbologyOf};
-ghost use Rattle.units.specs.Laid.{counted, allAllowed, ready};
-ghost use Rattle.units.specs.Room.{inSteps, allIn};
+ghost use Rattle.units.specs.Laid.{isGiven, counted, allAllowed, ready};
+ghost use Rattle.units.specs.Room.{allIn};
 
-// Whether a count lies between two and is a multiple of a third.
-fn between(n: usize, least: usize, most: usize, step: usize) -> bool
-    requires { ⌜ 0 < step ⌝ }
-    ensures { λ r. ⌜ r ≡ inSteps least most step n ⌝ }
+// Whether a count passed.
+fn is_given(verdict: Verdict) -> bool
+    ensures { λ r. ⌜ r ≡ isGiven verdict ⌝ }
 {
-    if n < least {
-        return false;
+    match verdict {
+        Verdict::Given => true,
+        Verdict::Turned(_) => false,
     }
-    if most < n {
-        return false;
-    }
-    n % step == 0
 }
 
-// Whether a mode gives so many drawn characters.
-pub fn is_counted(symbology: u8, n: usize) -> bool
-    requires { ⌜ n ≤ 34 ⌝ }
+// Whether some mode gives so many drawn characters.
+fn is_counted(symbology: u8, n: usize) -> bool
     ensures { λ r. ⌜ r ≡ counted symbology n ⌝ }
 {
-    match symbology {
-        1 | 2 | 4 | 6 => between(n, 1, 32, 1),
-        3 => between(n, 3, 34, 1),
-        5 => between(n, 2, 32, 2),
-        7 => between(n, 13, 13, 1),
-        8 => between(n, 8, 8, 1),
-        9 => between(n, 12, 12, 1),
-        _ => false,
+    if is_given(rows::judge_count(symbology, 0, n)) {
+        return true;
     }
+    if is_given(rows::judge_count(symbology, 1, n)) {
+        return true;
+    }
+    is_given(rows::judge_count(symbology, 2, n))
 }
 
 // Whether the characters from one index up to another have values from `low` up to below `high`.
@@ -70,17 +62,6 @@ fn is_lettered(codes: &[u8; 34], n: usize) -> bool
     all_in(codes, n - 1, n, 16, 20)
 }
 
-// How many characters a set has.
-fn size_of(symbology: u8) -> u8
-    ensures { λ r. ⌜ r ≡ size (symbologyOf symbology .alphabet) ⌝ }
-{
-    match symbology {
-        1 | 2 => 43,
-        3 => 20,
-        _ => 10,
-    }
-}
-
 // Whether the first n codes are a row of the symbology.
 pub fn is_ready(symbology: u8, codes: &[u8; 34], n: usize) -> bool
     requires { ⌜ (length (now codes) ≡ 34) × (n ≤ 34) ⌝ }
@@ -92,5 +73,5 @@ pub fn is_ready(symbology: u8, codes: &[u8; 34], n: usize) -> bool
     if symbology == 3 {
         return is_lettered(codes, n);
     }
-    all_in(codes, 0, n, 0, size_of(symbology))
+    all_in(codes, 0, n, 0, rows::size_of(symbology))
 }

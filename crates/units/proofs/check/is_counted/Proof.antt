@@ -1,20 +1,37 @@
--- `is_counted`: each arm is the range that its symbologies draw, and no other number draws anything.
+-- `is_counted`: each mode in turn; a verdict that is no refusal is a mode that gives the count.
 -- Assumes nothing.
-use mathlib.Core.Path.{sym, _∙_}
-use mathlib.Core.Logic.{⊎-elim}
-use native.Mathlib.Omega.{arith}
+use mathlib.Core.Path.{_∙_, sym}
+use lib.Dec.{lit<}
 use borrow.Author.Needs.{needs}
-use Rattle.units.proofs.Counted.{counts3, counts5, counts7, counts8, counts9}
-use Rattle.units.proofs.Passes.{one-two, four-six, uncounted, uncounted-past}
+use Rattle.units.proofs.Passes.{first-of, past-of, asked, counted-is}
 use Rattle.units.proofs.check.is_counted.Statement.{statement}
 use Rattle.units.proofs.check.is_counted.Tie as tie
 
-returns-8 : tie.Need-returns-8
-returns-8 c =
-    let s = c .before .before in
-    c .between6 .ensures
-    ∙ ⊎-elim (λ w. four-six (s .args .symbology) (s .args .n) (s .pre) (w .keys1)) (λ w. one-two (s .args .symbology) (s .args .n) (s .pre) (w .1 .left) (w .2 .taken))
-    (c .before .match .came)
+returns : tie.Need-returns
+returns c =
+    let a = c .before .before .before .args in
+    first-of _ _ _ _ (counted-is (a .symbology) (a .n)) (asked _ _ 0 (lit< tt) _ _ (c .before .before .judge-count .ensures) (c .before .is-given .ensures)) (c .if1 .taken)
+
+returns-2 : tie.Need-returns-2
+returns-2 c =
+    let d = c .before .before .before in
+    let a = d .before .before .before .args in
+    first-of _ _ _ _
+    (past-of _ _ _ _ (counted-is (a .symbology) (a .n)) (asked _ _ 0 (lit< tt) _ _ (d .before .before .judge-count .ensures) (d .before .is-given .ensures)) (d .if1 .left))
+    (asked _ _ 1 (lit< tt) _ _ (c .before .before .judge-count2 .ensures) (c .before .is-given2 .ensures))
+    (c .if2 .taken)
+
+returns-3 : tie.Need-returns-3
+returns-3 c =
+    let e = c .before .before in
+    let d = e .before .before .before in
+    let a = d .before .before .before .args in
+    asked _ _ 2 (lit< tt) _ _ (c .before .judge-count3 .ensures) (c .is-given3 .ensures)
+    ∙ sym
+    (past-of _ _ _ _
+    (past-of _ _ _ _ (counted-is (a .symbology) (a .n)) (asked _ _ 0 (lit< tt) _ _ (d .before .before .judge-count .ensures) (d .before .is-given .ensures)) (d .if1 .left))
+    (asked _ _ 1 (lit< tt) _ _ (e .before .before .judge-count2 .ensures) (e .before .is-given2 .ensures))
+    (e .if2 .left))
 
 pub is-counted-spec : {M : Type 1} → statement M
 is-counted-spec =
@@ -22,15 +39,10 @@ is-counted-spec =
     (tie.spec
     (λ c κs. search needs)
     (λ c κs. search needs)
+    returns
     (λ c κs. search needs)
     (λ c κs. search needs)
+    returns-2
     (λ c κs. search needs)
     (λ c κs. search needs)
-    (λ c. c .between .ensures ∙ rw (c .before .match .keys2) (sym (counts3 _ (c .before .before .pre))))
-    (λ c. c .between2 .ensures ∙ rw (c .before .match .keys3) (sym (counts5 _ (c .before .before .pre))))
-    (λ c. c .between3 .ensures ∙ rw (c .before .match .keys4) (sym (counts7 _ (c .before .before .pre))))
-    (λ c. c .between4 .ensures ∙ rw (c .before .match .keys5) (sym (counts8 _ (c .before .before .pre))))
-    (λ c. c .between5 .ensures ∙ rw (c .before .match .keys6) (sym (counts9 _ (c .before .before .pre))))
-    (λ c. uncounted _ _ (λ k. omega arith))
-    (λ c. uncounted-past _ _ (c .if2 .left) (c .before .before .match .rest))
-    returns-8)
+    returns-3)
