@@ -2,25 +2,12 @@
 -- Assumes nothing.
 use Rattle.laws.specs.One.{One, OneBuffer}
 use Rattle.laws.proofs.Only.{only}
-use Rattle.jobs.proofs.kinds.body_of.Reads as BodyOf
-use Rattle.jobs.proofs.kinds.body_of.Kinds as BodyOfKinds
-use Rattle.jobs.proofs.lines.line.Reads as Line
-use Rattle.jobs.proofs.lines.line.Kinds as LineKinds
 use Rattle.jobs.proofs.lines.end_line.Reads as EndLine
 use Rattle.jobs.proofs.lines.end_line.Kinds as EndLineKinds
 use Rattle.jobs.proofs.lines.stop_line.Reads as StopLine
 use Rattle.jobs.proofs.lines.stop_line.Kinds as StopLineKinds
 use Rattle.jobs.proofs.run.run_held.Reads as RunHeld
 use Rattle.jobs.proofs.run.run_held.Kinds as RunHeldKinds
-
-pub body-of : One 0 BodyOfKinds.ps BodyOfKinds.r BodyOf.Learnt
-body-of κs a p q x y = only
-
-pub line : One 2 LineKinds.ps LineKinds.r Line.Learnt
-line κs a p q x y h k = only (h .0) (k .0)
-
-pub line-buffer : OneBuffer 2 LineKinds.ps LineKinds.r (λ κs x. x .1 .1 .1 .1 .1 .0 .now) Line.Learnt
-line-buffer κs a p q x y h k = only (h .1) (k .1)
 
 pub end-line : One 1 EndLineKinds.ps EndLineKinds.r EndLine.Learnt
 end-line κs a p q x y h k = only (h .0) (k .0)

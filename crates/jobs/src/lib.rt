@@ -1,7 +1,7 @@
 // The job file: records to lines (document 01, "Job file").
 //
 // A record is a kind byte and a body whose length the kind fixes. `run_held` takes as many whole records as the bytes that are held
-// and the lent room allow, and prints a line for each; `line` prints that of one record, `end_line` and `stop_line` the last line.
+// and the lent room allow, and prints a line for each; `end_line` and `stop_line` print the last line.
 // What is printed for an input is `run` (specs/Run.antt), however the input is cut into pieces (proofs/Pieces.antt): what was read
 // before never changes a line.
 //
@@ -14,9 +14,7 @@ mod lines;
 mod run;
 mod text;
 
-pub use kinds::body_of;
 pub use lines::end_line;
-pub use lines::line;
 pub use lines::stop_line;
 pub use run::Ended;
 pub use run::Run;

@@ -75,18 +75,6 @@ pub fn put_line(
     }
 }
 
-// The line of a record at the front of the buffer: its length, as for the last lines.
-pub fn line(number: u64, kind: u8, mode: u8, count: u8, field: &[u8], out: &mut [u8]) -> usize
-    ensures { λ r. ⌜ r ≡ length (roomy (length (now (out .entry))) (lineOf number kind mode count (now (field .entry)))) ⌝ }
-    ensures { λ _. ⌜ now (out .exit) ≡ front (roomy (length (now (out .entry))) (lineOf number kind mode count (now (field .entry)))) (now (out .entry)) ⌝ }
-{
-    if out.len() < 445 {
-        return 0;
-    }
-    let line = put_line(number, kind, mode, count, field, out, 0);
-    line.next
-}
-
 // The last line of a run that came to the end of its input.
 pub fn end_line(records: u64, drawn: u64, out: &mut [u8]) -> usize
     ensures { λ r. ⌜ r ≡ length (roomy (length (now (out .entry))) (endLine records drawn)) ⌝ }
