@@ -9,29 +9,21 @@
 --
 -- Assumes nothing.
 use mathlib.Core.Path.{_≡_, refl, sym, ap, _∙_}
-use mathlib.Core.Bool.{Bool, true, false}
+use mathlib.Core.Bool.{true, false}
 use mathlib.Core.List.{List}
 use Prim.Native.Nat.{ℕ, _<_}
 use native.Mathlib.Omega.{arith}
-use lib.Dec.{eqb}
 use lib.ListN.{length}
-use borrow.Author.Tests.{lt-ltb, eqb-true}
-use Rattle.laws.specs.Search.{pick}
-use Rattle.laws.specs.Units.{Kind, Fits, Reading, found, stopped, read, widths, strip}
-use Rattle.laws.proofs.Finite.{upto, upto-at}
+use borrow.Author.Tests.{lt-ltb}
+use Rattle.laws.specs.Units.{Kind, Fits, Reading, found, stopped, read, strip}
 use Rattle.laws.proofs.Strips.{strip-read, read-strip}
 use Rattle.words.specs.declared.Answer.the-variants.{NoSuchParities}
-use Rattle.tables.specs.Alphabet.{bitsOf, rowsOf}
-use Rattle.tables.specs.Code39.{table42, chars39, alphabet39, rows39, star39}
-use Rattle.tables.specs.Codabar.{table41, alphabetCodabar, innerRows, letterRows}
-use Rattle.tables.specs.TwoOfFive.{table44, alphabetDigits, digitRows, industrialRows, industrialStart, industrialStop, interleavedRows, interleavedStart, interleavedStop, matrixRows, matrixEnds}
-use Rattle.tables.specs.Ean.{table52, patterns, oddRows, evenRows, leftRows, rightRows, guard, centre}
 use Rattle.rows.specs.Limits.{offered}
-use Rattle.rows.specs.Symbologies.{symbologies, symbologyOf}
+use Rattle.rows.specs.Symbologies.{symbologyOf}
 use Rattle.rows.specs.Rows.{gives, drawable, rowOf}
 use Rattle.rows.proofs.Undo.{Reads, reads, undo, past-turned}
-use Rattle.units.specs.Plans.{code39, codabar, industrial, interleaved, matrix, halves, plans, planOf, unitsOf, stripOf}
-use Rattle.units.specs.Totals.{totals, elementsOf}
+use Rattle.units.specs.Plans.{planOf, unitsOf, stripOf}
+use Rattle.units.specs.Totals.{elementsOf}
 use Rattle.units.specs.Laid.{counted, allAllowed, ready}
 use Rattle.units.proofs.Counted.{counted-few, known}
 use Rattle.units.proofs.Ready.{drawn-ready, ready-counted, ready-fits, all-good}

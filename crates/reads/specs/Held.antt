@@ -25,11 +25,11 @@ use Rattle.laws.specs.Elements.{find}
 use Rattle.laws.specs.Units.{Kind, fixed, free, rows, width}
 use Rattle.words.specs.declared.ElementPlace.{ElementPlace}
 use Rattle.tables.specs.Bits.{bit, spread, number}
-use Rattle.tables.specs.Alphabet.{Alphabet, foundOf}
+use Rattle.tables.specs.Alphabet.{foundOf}
 use Rattle.tables.specs.Code39.{alphabet39, rows39}
 use Rattle.tables.specs.Codabar.{alphabetCodabar, innerRows, letterRows}
 use Rattle.tables.specs.TwoOfFive.{alphabetDigits, industrialRows, interleavedRows, matrixRows}
-use Rattle.tables.specs.Ean.{patterns, oddRows, leftRows, rightRows}
+use Rattle.tables.specs.Ean.{oddRows, leftRows, rightRows}
 use Rattle.reads.specs.declared.kinds.Unit.{Unit}
 use Rattle.reads.specs.declared.kinds.Unit.the-variants.{Fixed, Char39, Letter, Inner, Industrial, Pair, Matrix, Odd, Left, Right}
 use Rattle.reads.specs.declared.search.Sought.{Sought}

@@ -5,7 +5,6 @@ use super::kinds::Unit;
 use super::pack;
 use words::ElementPlace;
 ghost use mathlib.Core.Path.{_≡_};
-ghost use mathlib.Core.Bool.{Bool};
 ghost use Prim.Native.Nat.{_+_, _<_, _≤_, _^_};
 ghost use lib.Dec.{leb};
 ghost use lib.ListN.{length, getD};

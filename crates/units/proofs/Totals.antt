@@ -17,7 +17,7 @@ use lib.ListN.{length, getD}
 use borrow.Author.Tests.{ltb-true, le-ltb, eqb-true}
 use Rattle.laws.specs.Search.{pick}
 use Rattle.laws.specs.Elements.{sum}
-use Rattle.laws.specs.Units.{Kind, widths, strip}
+use Rattle.laws.specs.Units.{widths, strip}
 use Rattle.laws.specs.Shapes.{many, shape}
 use Rattle.laws.proofs.Finite.{both-left, both-right, line, From}
 use Rattle.laws.proofs.Elements.{sum-append}
