@@ -1,7 +1,6 @@
-/* Compares the library with bench/plain.c and bench/forms.c: random requests and random strips, valid, damaged and
-   wild. Every answer and the whole of every lent buffer must be the same.
+/* Compares the library with bench/plain.c: random requests and random strips, valid, damaged and wild. Every answer
+   and the whole of every lent buffer must be the same.
    Use: agree [number of rounds] [seed] */
-#include "forms.h"
 #include "plain.h"
 #include "strip.h"
 #include <stdio.h>
@@ -37,29 +36,26 @@ static void show(const char *what, int s, int m, const uint8_t *in, size_t len, 
            (unsigned long)b[0], (unsigned long)b[1], (unsigned long)b[2], (unsigned long)b[3]);
 }
 
-/* One input to all three sides, with the same lent buffer; gives what plain wrote. */
-static void all(int reading, int s, int m, const uint8_t *given, size_t len, size_t room,
-                uint8_t *buffer, uint64_t *answer)
+/* One input to both sides, with the same lent buffer; gives what plain wrote. */
+static void both(int reading, int s, int m, const uint8_t *given, size_t len, size_t room,
+                 uint8_t *buffer, uint64_t *answer)
 {
     /* a copy of exactly this length, so that a sanitizer sees a read behind its end */
     uint8_t *in = malloc(len ? len : 1);
     if (!in)
         exit(2);
     memcpy(in, given, len);
-    uint8_t mine[ROOM], theirs[ROOM], third[ROOM];
-    uint64_t a[4] = { 77, 77, 77, 77 }, b[4] = { 88, 88, 88, 88 }, c[4] = { 99, 99, 99, 99 };
+    uint8_t mine[ROOM], theirs[ROOM];
+    uint64_t a[4] = { 77, 77, 77, 77 }, b[4] = { 88, 88, 88, 88 };
     uint8_t fill = (uint8_t)rnd();
     memset(mine, fill, ROOM);
     memset(theirs, fill, ROOM);
-    memset(third, fill, ROOM);
     if (reading) {
         strip_read((uint8_t)s, (uint8_t)m, in, len, mine, room, a);
         plain_read((uint8_t)s, (uint8_t)m, in, len, theirs, room, b);
-        forms_read((uint8_t)s, (uint8_t)m, in, len, third, room, c);
     } else {
         strip_draw((uint8_t)s, (uint8_t)m, in, len, mine, room, a);
         plain_draw((uint8_t)s, (uint8_t)m, in, len, theirs, room, b);
-        forms_draw((uint8_t)s, (uint8_t)m, in, len, third, room, c);
     }
     compared[reading]++;
     if (b[0] < 16)
@@ -68,8 +64,6 @@ static void all(int reading, int s, int m, const uint8_t *given, size_t len, siz
         done[reading]++;
     if (memcmp(a, b, sizeof a) || memcmp(mine, theirs, ROOM))
         show(reading ? "reading" : "drawing", s, m, in, len, room, a, "plain", b);
-    if (memcmp(a, c, sizeof a) || memcmp(mine, third, ROOM))
-        show(reading ? "reading" : "drawing", s, m, in, len, room, a, "forms", c);
     memcpy(buffer, theirs, ROOM);
     memcpy(answer, b, sizeof b);
     free(in);
@@ -232,30 +226,30 @@ int main(int argc, char **argv)
             if (answer[0] == 0 && seen[0] == 0 && seen[2] == len)
                 memcpy(text, data, len);
         }
-        all(0, s, m, text, len, room_for(339), strip, answer);
+        both(0, s, m, text, len, room_for(339), strip, answer);
 
         /* the strip just drawn, then the same damaged */
         if (answer[0] == 0) {
             size_t n = (size_t)answer[2];
-            all(1, s, m, strip, n, room_for(34), buffer, seen);
+            both(1, s, m, strip, n, room_for(34), buffer, seen);
             if (seen[0] == 0 && (seen[2] != len || memcmp(buffer, text, len)))
                 show("undoing", s, m, text, len, ROOM, answer, "read back", seen);
             damage(strip, &n);
-            all(1, s, m, strip, n, room_for(34), buffer, seen);
+            both(1, s, m, strip, n, room_for(34), buffer, seen);
         }
 
         /* rows by chance, whole and damaged; wild strips */
         if (s >= 1 && s <= 9) {
             size_t n = row_strip(s, strip);
-            all(1, s, m, strip, n, room_for(34), buffer, seen);
+            both(1, s, m, strip, n, room_for(34), buffer, seen);
             if (one_in(2)) {
                 damage(strip, &n);
-                all(1, s, m, strip, n, room_for(34), buffer, seen);
+                both(1, s, m, strip, n, room_for(34), buffer, seen);
             }
         }
         if (one_in(2)) {
             size_t n = wild(s, strip);
-            all(1, s, m, strip, n, room_for(34), buffer, seen);
+            both(1, s, m, strip, n, room_for(34), buffer, seen);
         }
     }
     for (int k = 0; k < 2; k++) {

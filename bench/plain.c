@@ -1,12 +1,38 @@
-/* Bottle strips in plain C, written from document 01 for speed: eight elements are looked at in one
-   word, every lookup is one access to a table that is indexed by the code, every pattern is copied whole.
-   Nothing here is proved; bench/agree.c compares it with the proved library. */
+/* Bottle strips in C, written by hand from document 01 and for speed: eight elements are read as one word, and a
+   character takes one access to a table. Nothing in it is proved. It is the measure that the library is compared with,
+   and bench/agree.c sees to it that both give the same answers. */
 #include "plain.h"
-#include "common.h"
+#include <string.h>
 
-/* Entries of the tables from code to value hold the value plus one, so that 0 means "none". */
+enum {
+    DONE = 0, NO_SYMBOLOGY = 1, NO_MODE = 2, NO_COUNT = 3, NO_BYTE = 4, ODD_COUNT = 5, TOO_MANY = 6,
+    WRONG_CHECK = 7, NO_ROOM = 8, NO_LENGTH = 9, NO_ROW = 10, NO_PARITY = 11, NO_EXPANSION = 12
+};
+
+/* Entries of the tables that give a value hold it plus one, so that 0 means "none". */
 
 /* ---- the tables of source 001 ---- */
+
+/* Table 4.2 in the order of table 4.3's values, * behind them as number 43. */
+#define CODE39_ROWS(X) \
+    X( 0, '0', 0x034) X( 1, '1', 0x121) X( 2, '2', 0x061) X( 3, '3', 0x160) X( 4, '4', 0x031) \
+    X( 5, '5', 0x130) X( 6, '6', 0x070) X( 7, '7', 0x025) X( 8, '8', 0x124) X( 9, '9', 0x064) \
+    X(10, 'A', 0x109) X(11, 'B', 0x049) X(12, 'C', 0x148) X(13, 'D', 0x019) X(14, 'E', 0x118) \
+    X(15, 'F', 0x058) X(16, 'G', 0x00D) X(17, 'H', 0x10C) X(18, 'I', 0x04C) X(19, 'J', 0x01C) \
+    X(20, 'K', 0x103) X(21, 'L', 0x043) X(22, 'M', 0x142) X(23, 'N', 0x013) X(24, 'O', 0x112) \
+    X(25, 'P', 0x052) X(26, 'Q', 0x007) X(27, 'R', 0x106) X(28, 'S', 0x046) X(29, 'T', 0x016) \
+    X(30, 'U', 0x181) X(31, 'V', 0x0C1) X(32, 'W', 0x1C0) X(33, 'X', 0x091) X(34, 'Y', 0x190) \
+    X(35, 'Z', 0x0D0) X(36, '-', 0x085) X(37, '.', 0x184) X(38, ' ', 0x0C4) X(39, '$', 0x0A8) \
+    X(40, '/', 0x0A2) X(41, '+', 0x08A) X(42, '%', 0x02A)
+#define STAR 43
+#define STAR_CODE 0x094
+
+/* Table 4.1: 16 inner characters, then the four letters. */
+#define CODABAR_ROWS(X) \
+    X( 0, '0', 0x03) X( 1, '1', 0x06) X( 2, '2', 0x09) X( 3, '3', 0x60) X( 4, '4', 0x12) \
+    X( 5, '5', 0x42) X( 6, '6', 0x21) X( 7, '7', 0x24) X( 8, '8', 0x30) X( 9, '9', 0x48) \
+    X(10, '-', 0x0C) X(11, '$', 0x18) X(12, ':', 0x45) X(13, '/', 0x51) X(14, '.', 0x54) \
+    X(15, '+', 0x15) X(16, 'A', 0x1A) X(17, 'B', 0x29) X(18, 'C', 0x0B) X(19, 'D', 0x0E)
 
 /* Tables 4.4 to 4.6: the same ten codes. */
 #define TWO_OF_FIVE(X) \
@@ -18,6 +44,38 @@
 #define EAN(X) \
     X(0, 3,2,1,1, 0x00) X(1, 2,2,2,1, 0x0B) X(2, 2,1,2,2, 0x0D) X(3, 1,4,1,1, 0x0E) X(4, 1,1,3,2, 0x13) \
     X(5, 1,2,3,1, 0x19) X(6, 1,1,1,4, 0x1C) X(7, 1,3,1,2, 0x15) X(8, 1,2,1,3, 0x16) X(9, 3,1,1,2, 0x1A)
+
+/* ---- from character to value and back ---- */
+
+static const uint8_t code39_char[43] = {
+#define X(v, ch, code) ch,
+    CODE39_ROWS(X)
+#undef X
+};
+static const uint8_t code39_of_char[256] = {
+#define X(v, ch, code) [ch] = v + 1,
+    CODE39_ROWS(X)
+#undef X
+};
+static const uint8_t codabar_char[20] = {
+#define X(v, ch, code) ch,
+    CODABAR_ROWS(X)
+#undef X
+};
+static const uint8_t codabar_of_char[256] = {
+#define X(v, ch, code) [ch] = v + 1,
+    CODABAR_ROWS(X)
+#undef X
+};
+
+/* Full ASCII backwards: the letter behind /, + or % gives the byte, 0 if none does. */
+static const uint8_t item_byte[3][26] = {
+    { '!', '"', '#', '$', '%', '&', '\'', '(', ')', '*', '+', ',', 0, 0, '/', [25] = ':' },
+    { 'a', 'b', 'c', 'd', 'e', 'f', 'g', 'h', 'i', 'j', 'k', 'l', 'm',
+      'n', 'o', 'p', 'q', 'r', 's', 't', 'u', 'v', 'w', 'x', 'y', 'z' },
+    { [5] = ';', '<', '=', '>', '?', '[', '\\', ']', '^', '_', '{', '|', '}', '~', 0x7F,
+      [21] = '@', [22] = '`' }
+};
 
 /* ---- from code to value ---- */
 
@@ -71,6 +129,20 @@ static const uint8_t parity_value[64] = {
 #undef X
 };
 
+/* ---- answers ---- */
+
+#define ALWAYS static inline __attribute__((always_inline))
+
+ALWAYS void answer_is(uint64_t *answer, uint64_t number, uint64_t place, uint64_t count, uint64_t total)
+{
+    answer[0] = number;
+    answer[1] = place;
+    answer[2] = count;
+    answer[3] = total;
+}
+
+#define REFUSE(number, place) do { answer_is(answer, number, place, 0, 0); return; } while (0)
+
 /* ---- checks ---- */
 
 /* The weights 1, 3, 1, 3 and so on; `first` is the weight of the first value. */
@@ -97,6 +169,29 @@ ALWAYS unsigned check_43(const uint8_t *value, size_t n)
 }
 
 /* ---- reading ---- */
+
+/* Eight elements as a word, the first one lowest. */
+ALWAYS uint64_t eight(const uint8_t *p)
+{
+    uint64_t x;
+    memcpy(&x, p, 8);
+#if defined(__BYTE_ORDER__) && __BYTE_ORDER__ == __ORDER_BIG_ENDIAN__
+    x = __builtin_bswap64(x);
+#endif
+    return x;
+}
+
+/* 1 is narrow and 3 is wide: without bit 1 either is 1. Not 0 if one of the eight is neither. */
+ALWAYS uint64_t stray_of(uint64_t x)
+{
+    return (x & 0xFDFDFDFDFDFDFDFDULL) ^ 0x0101010101010101ULL;
+}
+
+/* Bit 1 of each of the eight, the first one highest. */
+ALWAYS unsigned code_of(uint64_t x)
+{
+    return (unsigned)(((x >> 1 & 0x0101010101010101ULL) * 0x8040201008040201ULL) >> 56);
+}
 
 #define STRAY 0x8000
 
@@ -284,6 +379,20 @@ ALWAYS void read_interleaved(uint8_t mode, const uint8_t *strip, size_t len,
     if (!ARE(strip + at, 3, 3, 1, 1))
         REFUSE(NO_ROW, at);
     hand_over(mode, value, n, 1, 9 * n + 9, out, out_len, answer);
+}
+
+/* Four widths from 1 to 4, two bits each, the first one highest; NO_WIDTHS if one is another. */
+#define NO_WIDTHS 256
+ALWAYS unsigned four_widths(const uint8_t *p)
+{
+    uint32_t x;
+    memcpy(&x, p, 4);
+#if defined(__BYTE_ORDER__) && __BYTE_ORDER__ == __ORDER_BIG_ENDIAN__
+    x = __builtin_bswap32(x);
+#endif
+    /* Each width less 1; a width of 0 borrows, which shows in its own byte. */
+    x -= 0x01010101u;
+    return x & 0xFCFCFCFCu ? NO_WIDTHS : (uint32_t)(x * 0x40100401u) >> 24;
 }
 
 /* The value of four elements in table 5.2, plus one, 0 if they are in none of its rows. */

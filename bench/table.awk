@@ -4,7 +4,6 @@ BEGIN {
     split("Code 39,Code 39 full ASCII,Codabar,Industrial 2 of 5,Interleaved 2 of 5,Matrix 2 of 5,EAN-13,EAN-8,UPC-A", name, ",")
     title["library"] = "this library"
     title["plain"] = "plain C"
-    title["forms"] = "C, same forms"
     title["second"] = "independent Rust"
     title["zint"] = "zint"
     title["zbar"] = "zbar"
@@ -38,7 +37,7 @@ function mean(what, size, a, b, c,    s, k, sum) {
 }
 
 function table(what, heading, peer,    columns, n, column, i, j, s, size, line, k) {
-    n = split("library plain forms second " peer, columns, " ")
+    n = split("library plain second " peer, columns, " ")
     printf "\n%s, ns a strip\n\n| symbology | labels |", heading
     line = "|---|---|"
     for (i = 1; i <= n; i++)
@@ -77,7 +76,7 @@ function means(what, heading, side,    j, size, r, p, words) {
         }
         p = mean(what, size, side, "plain", side)
         printf "| %s | %s | %s, %d | %.2f | %.2f | %.2f |\n", heading,
-            (side == "forms" ? "all; the peer is " title[side] : "those that " title[side] " has"), words, over, r, p, r / p
+            "those that " title[side] " has", words, over, r, p, r / p
     }
 }
 
@@ -88,11 +87,9 @@ END {
     print "| | symbologies | labels, number | library by plain C | peer by plain C | library by peer |"
     print "|---|---|---|---:|---:|---:|"
     means("draw", "drawing", "plain")
-    means("draw", "drawing", "forms")
     means("draw", "drawing", "second")
     means("draw", "drawing", "zint")
     means("read", "reading", "plain")
-    means("read", "reading", "forms")
     means("read", "reading", "second")
     means("read", "reading", "zbar")
 }

@@ -1,9 +1,8 @@
-/* Times drawing and reading: this library, plain C, C in the same forms and, where they were found, zint and zbar.
+/* Times drawing and reading: this library, plain C and, where they were found, zint and zbar.
    Use: timing labels   prints the labels, for the Rust program: kind, mode, size, data in hex, strip
         timing rounds   so many short interleaved rounds; prints "time <what> <symbology> <size> <side> <ns>"
    A line holds the shortest round of that side, by label. bench/run takes the minimum over several runs. */
 #define _POSIX_C_SOURCE 199309L
-#include "forms.h"
 #include "plain.h"
 #include "strip.h"
 #include <stdio.h>
@@ -100,9 +99,6 @@ static void make_works(void)
                 plain_draw((uint8_t)s, (uint8_t)w->mode, l->text, l->len, other, ROOM, b);
                 if (a[0] != 0 || memcmp(a, b, sizeof a) || memcmp(l->strip, other, (size_t)a[2]))
                     die("drawing differs", s);
-                forms_draw((uint8_t)s, (uint8_t)w->mode, l->text, l->len, other, ROOM, b);
-                if (memcmp(a, b, sizeof a) || memcmp(l->strip, other, (size_t)a[2]))
-                    die("drawing in the same forms differs", s);
                 l->count = (size_t)a[2];
                 strip_read((uint8_t)s, (uint8_t)w->mode, l->strip, l->count, back, sizeof back, a);
                 if (a[0] != 0 || a[2] != l->len || memcmp(back, l->text, l->len))
@@ -110,9 +106,6 @@ static void make_works(void)
                 plain_read((uint8_t)s, (uint8_t)w->mode, l->strip, l->count, back, sizeof back, b);
                 if (memcmp(a, b, sizeof a) || memcmp(back, l->text, l->len))
                     die("plain reading differs", s);
-                forms_read((uint8_t)s, (uint8_t)w->mode, l->strip, l->count, back, sizeof back, b);
-                if (memcmp(a, b, sizeof a) || memcmp(back, l->text, l->len))
-                    die("reading in the same forms differs", s);
                 for (size_t k = 0; k < l->count; k++)
                     l->width[k] = 4u * l->strip[k];
             }
@@ -147,10 +140,8 @@ static uint64_t read_all(call *read, const struct work *w, int turns)
 }
 static uint64_t draw_library(const struct work *w, int turns) { return draw_all(strip_draw, w, turns); }
 static uint64_t draw_plain(const struct work *w, int turns) { return draw_all(plain_draw, w, turns); }
-static uint64_t draw_forms(const struct work *w, int turns) { return draw_all(forms_draw, w, turns); }
 static uint64_t read_library(const struct work *w, int turns) { return read_all(strip_read, w, turns); }
 static uint64_t read_plain(const struct work *w, int turns) { return read_all(plain_read, w, turns); }
-static uint64_t read_forms(const struct work *w, int turns) { return read_all(forms_read, w, turns); }
 
 #ifdef WITH_ZINT
 /* zint's nearest symbology and option 2 (1 adds a check character). No image is made; the symbol is made once. */
@@ -299,7 +290,6 @@ int main(int argc, char **argv)
         struct side drawing[] = {
             { "library", "draw", draw_library, 0, 0 },
             { "plain", "draw", draw_plain, 0, 0 },
-            { "forms", "draw", draw_forms, 0, 0 },
 #ifdef WITH_ZINT
             { "zint", "draw", draw_zint, 0, 0 },
 #endif
@@ -307,7 +297,6 @@ int main(int argc, char **argv)
         struct side reading[] = {
             { "library", "read", read_library, 0, 0 },
             { "plain", "read", read_plain, 0, 0 },
-            { "forms", "read", read_forms, 0, 0 },
 #ifdef WITH_ZBAR
             { "zbar", "read", read_zbar, 0, 0 },
 #endif
