@@ -109,7 +109,7 @@ draw-first s m count field out =
     (next row (odd (symbologyOf s) (length r)) OddCount _ _ refl
     (next row (ltb (symbologyOf s .room) (length r)) TooManyDrawn _ _ refl
     (next-not row (passes (symbologyOf s .rule) m r) _ _ _ refl
-    (short-first (ltb (length out) (elementsOf s (length r))) _ out _))))))))
+    (short-first (ltb (length out) (elementsOf s (length r))) _ _ _))))))))
   where
     row : Outcome → Answer
     row z = onto s z out .answer
