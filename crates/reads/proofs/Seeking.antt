@@ -8,7 +8,7 @@
 --   spaces-39, past-most   each row of Code 39 is among those that have its spaces, and those are among the 43
 --   ten-digits, digit-by   by-codes for the ten digits, by the digit that the code is
 --   industrial-found, pair-found    Industrial and Interleaved
---   own-set, own-digit, pattern-back    a pattern is found at its own set and digit, and what is found is the pattern there
+--   own, pattern-back    a pattern is found at its own set and digit, and what is found is the pattern there
 --   units-found      the sets of EAN and UPC
 --   Suits            the lent codes are those of a unit's rows; suits-unit, a symbology's codes are
 --   fixed-found, char-found, found-in    the unit at a place, where it reaches no further than the strip
@@ -26,17 +26,17 @@ use native.Mathlib.Numerals.{add-one}
 use lib.Dec.{eqb, ltb, leb, lit≤}
 use lib.ListN.{length, getD}
 use borrow.Author.Tests.{eqb-true, eq-eqb, ltb-true, lt-ltb, leb-true, ltb-false, eqb-false}
-use Rattle.laws.specs.Search.{pick, indexIn}
+use Rattle.laws.specs.Search.{pick}
 use Rattle.laws.specs.Units.{free, width}
-use Rattle.laws.proofs.Finite.{both-left, both-right, upto-at, line, From, from-at}
+use Rattle.laws.proofs.Finite.{both-left, both-right, upto-at, From, from-at}
 use Rattle.laws.proofs.Search.{index-hit}
 use Rattle.tables.specs.Alphabet.{Alphabet, size, bitsOf, foundOf}
 use Rattle.tables.specs.Code39.{table42, chars39, alphabet39, rows39}
 use Rattle.tables.specs.Codabar.{table41, alphabetCodabar}
 use Rattle.tables.specs.TwoOfFive.{table44, alphabetDigits, industrialRows, interleavedRows}
-use Rattle.tables.specs.Ean.{table52, patterns}
+use Rattle.tables.specs.Ean.{patterns}
 use Rattle.tables.proofs.Alphabets.{Proper, found-bits, bits-found, proper39, proper-codabar, proper-digits}
-use Rattle.tables.proofs.Patterns.{three, ten, SetDigit, setOf, foundPattern}
+use Rattle.tables.proofs.Patterns.{three, ten, patternOf, SetDigit, setOf, foundPattern, found-own}
 use Rattle.reads.specs.declared.kinds.Unit.{Unit}
 use Rattle.reads.specs.declared.kinds.Unit.the-variants.{Fixed, Char39, Letter, Inner, Industrial, Pair, Matrix, Odd, Left, Right}
 use Rattle.reads.specs.declared.search.Sought.{Sought}
@@ -186,13 +186,9 @@ module _ (sets : List (List ℕ)) (t : List ℕ) (at : ℕ) where
 abbrev pattern : ℕ → ℕ
 pattern i = getD (getD patterns (i / 10) []) (i % 10) 0
 
-own-set : (i : ℕ) → i < 30 → foundPattern (pattern i) .set ≡ i / 10
-unfolding foundPattern patterns table52 indexIn
-own-set = line 30 (λ i. foundPattern (pattern i) .set) (λ i. i / 10) refl
-
-own-digit : (i : ℕ) → i < 30 → foundPattern (pattern i) .digit ≡ i % 10
-unfolding foundPattern patterns table52 indexIn
-own-digit = line 30 (λ i. foundPattern (pattern i) .digit) (λ i. i % 10) refl
+own : (i : ℕ) → i < 30 → (foundPattern (pattern i) .set ≡ i / 10) × (foundPattern (pattern i) .digit ≡ i % 10)
+unfolding patternOf
+own i h = found-own (i / 10) (i % 10) (omega arith) (omega arith)
 
 pattern-back : (p : ℕ) → foundPattern p .set < 3 → getD (getD patterns (foundPattern p .set) []) (foundPattern p .digit) 0 ≡ p
 unfolding foundPattern
@@ -206,8 +202,8 @@ module _ {rows : List (List ℕ)} {lo hi : ℕ} {turn : ℕ → ℕ} (u : Units 
       let f : SetDigit = foundPattern (turn p) in
       by-sets codes patterns (turn p) (10 * lo) (10 * hi) up (at + 4) (unitAt (free rows) t at)
       (λ i a b s g.
-      let c : f .set ≡ i / 10 = rw g at (own-set i (omega arith)) in
-      let d : f .digit ≡ i % 10 = rw g at (own-digit i (omega arith)) in
+      let c : f .set ≡ i / 10 = rw g at (own i (omega arith) .0) in
+      let d : f .digit ≡ i % 10 = rw g at (own i (omega arith) .1) in
       rw (back i a b) (u .here t at p (i - 10 * lo) f l refl refl (omega arith)))
       (λ none. u .other t at p f l refl refl (λ m.
       let d : f .digit < 10 = digit-below (turn p) f refl (omega arith) in

@@ -7,8 +7,7 @@
 --   four-and-seven   EAN and UPC: every pattern has four elements and seven modules
 --   turned, right-odd    bars and spaces exchanged: the right set is the odd set turned
 --   mirror, even-odd     read from the other end: the even set is the right set mirrored
---   distinct-parities    no parities stand twice, so searches undo lookups
---   found-own        nor do patterns: each is found in its own set at its own digit
+--   distinct-parities    no parities stand twice, so searches undo lookups (nor do patterns: Patterns.antt, found-own)
 --
 -- Assumes nothing.
 use mathlib.Core.Path.{_≡_, refl}
@@ -24,8 +23,8 @@ use Rattle.tables.specs.Alphabet.{bitsOf}
 use Rattle.tables.specs.Code39.{table42, chars39, alphabet39}
 use Rattle.tables.specs.Codabar.{table41, alphabetCodabar}
 use Rattle.tables.specs.TwoOfFive.{table44, alphabetDigits}
-use Rattle.tables.specs.Ean.{table52, patterns, patternOf, parities}
-use Rattle.tables.proofs.Patterns.{foundPattern}
+use Rattle.tables.specs.Ean.{table52, patterns, parities}
+use Rattle.tables.proofs.Patterns.{patternOf}
 
 -- ---- wide elements, elements, modules
 
@@ -71,10 +70,3 @@ even-odd = line 10 (patternOf 1) (λ d. mirror 7 (turned (patternOf 0 d))) refl
 pub distinct-parities : Distinct parities
 unfolding parities table52 indexIn
 distinct-parities = distinct parities refl
-
-pub found-own : (s d : ℕ) → s < 3 → d < 10 → (foundPattern (patternOf s d) .set ≡ s) × (foundPattern (patternOf s d) .digit ≡ d)
-unfolding foundPattern patternOf patterns table52 indexIn
-found-own s d h k = (
-  grid 3 10 (λ s d. foundPattern (patternOf s d) .set) (λ s d. s) refl s d h k,
-  grid 3 10 (λ s d. foundPattern (patternOf s d) .digit) (λ s d. d) refl s d h k,
-)

@@ -6,7 +6,6 @@
 --   patterns        the three sets of ten: left odd, left even, right, by set (0, 1, 2) and digit
 --   even            the bit of a letter: 0 is odd and 1 is even, the number of the set
 --   parities        by D1: six bits, D2's the highest
---   patternOf       the pattern of a set and a digit, 0 past the table
 --   paritiesOf      the parities of a first digit, 0 past 9
 --   firstDigit      the first digit of parities, 10 where none has them
 --   oddRows, evenRows, rightRows, leftRows    the sets as elements; EAN-13's left units come from twenty rows
@@ -52,9 +51,6 @@ even letter = pick (eqb letter (code "E")) 1 0
 
 unfoldable pub parities : List ℕ
 parities = map (λ (l : Line). number (map even (l .parities))) table52
-
-unfoldable pub patternOf : ℕ → ℕ → ℕ
-patternOf set digit = getD (getD patterns set []) digit 0
 
 unfoldable pub paritiesOf : ℕ → ℕ
 paritiesOf d = getD parities d 0
