@@ -4,7 +4,7 @@
 // stand in a longer field, as a row, or turns them away with the first of 1, 2, 3, 13, 4, 5, 6, 7 that applies; `data_of` hands a
 // row's data back, or turns the row away with the first of 1, 2, 9, 12, 7, 8.
 //
-// What drawing and reading strips need of the same facts they have from here: `judge_count`, `size_of`, `turn_away`.
+// `judge_count`, `size_of` and `turn_away` serve those who draw and read strips, so that limits, sizes and refusals stand once.
 //
 // The main property (proofs/Undo.antt): `rowOf s m d` gives r exactly if `dataOf s m r` gives d.
 mod check;

@@ -9,7 +9,7 @@ hand-back-requires : tie.Need-hand-back-requires
 hand-back-requires c κs =
     let a = c .before .before .before .before .before .before .args in
     let r = c .before .before .before .row-seen in
-    read-short (a .symbology) (a .mode) (a .strip .now) (a .out .now) (r .result) (r .ensures) (c .before .enum-told .given .1)
+    read-short _ _ (a .strip .now) (a .out .now) (r .result) (r .ensures) (c .before .enum-told .given .1)
 
 returns : tie.Need-returns
 returns c =

@@ -13,7 +13,7 @@ put-strip-requires c κs =
     let k = d .before .before in
     let a = k .before .before .before .args in (
       (search needs, search needs),
-      room-holds (a .number) (a .kind) (a .mode) (a .count) (a .field .now) (k .symbology-of .result) (d .draw-field .result) (y .say .result)
+      room-holds (a .number) (a .kind) _ (a .count) (a .field .now) (k .symbology-of .result) (d .draw-field .result) (y .say .result)
           (d .draw-field .last .1 .1 .1 .1 .0) (k .symbology-of .ensures) (d .draw-field .ensures .0) (d .draw-field .ensures .1) (y .say .ensures),
     )
 

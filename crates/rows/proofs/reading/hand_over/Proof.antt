@@ -15,7 +15,7 @@ returns c =
     let a = c .before .before in
     let long : length (a .args .text .codes) ≡ 34 = search needs in
     let l : a .args .text .len ≤ length (a .args .text .codes) = omega (arith, a .pre) in
-    short (a .args .text .codes) (a .args .out .now) _ l (c .if1 .taken)
+    short (a .args .text .codes) (a .args .out .now) _ l (omega (arith, c .if1 .taken))
 
 array-share-prefix-codes : tie.Need-array-share-prefix-codes
 array-share-prefix-codes c =

@@ -24,7 +24,7 @@ returns c =
 returns-2 : tie.Need-returns-2 Inv-loop μ-loop
 returns-2 c =
     let l = c .before .before .before .before .before in
-    sym (l .loop .inv ∙ too-high _ _ _ _ _ (c .before .before .before .before .loop-test .taken) (omega arith) (c .before .before .if1 .left) (c .if2 .taken))
+    sym (l .loop .inv ∙ too-high _ _ _ _ _ (c .before .before .before .before .loop-test .taken) (omega arith) (c .before .before .if1 .left) (omega (arith, c .if2 .taken)))
 
 loop-again : tie.Need-loop-again Inv-loop μ-loop
 loop-again c =
