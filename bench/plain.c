@@ -145,18 +145,18 @@ ALWAYS void answer_is(uint64_t *answer, uint64_t number, uint64_t place, uint64_
 
 /* ---- checks ---- */
 
-/* The weights 1, 3, 1, 3 and so on; `first` is the weight of the first value. */
-ALWAYS unsigned check_ten(const uint8_t *value, size_t n, unsigned first)
+/* The last value weighs 3, then 1, 3 and so on: the first of an odd number weighs 3, of an even number 1. */
+ALWAYS unsigned check_ten(const uint8_t *value, size_t n)
 {
-    unsigned plain = 0, triple = 0;
+    unsigned first = 0, second = 0;
     size_t i;
     for (i = 0; i + 1 < n; i += 2) {
-        plain += value[i];
-        triple += value[i + 1];
+        first += value[i];
+        second += value[i + 1];
     }
     if (i < n)
-        plain += value[i];
-    unsigned sum = first == 1 ? plain + 3 * triple : 3 * plain + triple;
+        first += value[i];
+    unsigned sum = n % 2 == 0 ? first + 3 * second : 3 * first + second;
     return (10 - sum % 10) % 10;
 }
 
@@ -311,10 +311,9 @@ ALWAYS void read_codabar(const uint8_t *strip, size_t len, uint8_t *out, size_t 
 }
 
 /* What follows the units for the codes whose characters are digits. */
-ALWAYS void hand_over(uint8_t mode, const uint8_t *value, size_t n, unsigned first, uint64_t total,
-                      uint8_t *out, size_t out_len, uint64_t *answer)
+ALWAYS void hand_over(uint8_t mode, const uint8_t *value, size_t n, uint64_t total, uint8_t *out, size_t out_len, uint64_t *answer)
 {
-    if (mode != 0 && check_ten(value, n - 1, first) != value[n - 1])
+    if (mode != 0 && check_ten(value, n - 1) != value[n - 1])
         REFUSE(WRONG_CHECK, n - 1);
     size_t count = mode == 2 ? n - 1 : n;
     if (out_len < count)
@@ -353,7 +352,7 @@ ALWAYS void read_parted(int industrial, uint8_t mode, const uint8_t *strip, size
     }
     if (industrial ? !ARE(strip + at, 5, 3, 1, 1, 1, 3) : !ARE(strip + at, 5, 3, 1, 1, 1, 1))
         REFUSE(NO_ROW, at);
-    hand_over(mode, value, n, 1, industrial ? 14 * n + 19 : 10 * n + 15, out, out_len, answer);
+    hand_over(mode, value, n, industrial ? 14 * n + 19 : 10 * n + 15, out, out_len, answer);
 }
 
 ALWAYS void read_interleaved(uint8_t mode, const uint8_t *strip, size_t len,
@@ -378,7 +377,7 @@ ALWAYS void read_interleaved(uint8_t mode, const uint8_t *strip, size_t len,
     }
     if (!ARE(strip + at, 3, 3, 1, 1))
         REFUSE(NO_ROW, at);
-    hand_over(mode, value, n, 1, 9 * n + 9, out, out_len, answer);
+    hand_over(mode, value, n, 9 * n + 9, out, out_len, answer);
 }
 
 /* Four widths from 1 to 4, two bits each, the first one highest; NO_WIDTHS if one is another. */
@@ -438,8 +437,7 @@ ALWAYS void read_ean(int thirteen, size_t half, uint8_t mode, const uint8_t *str
             REFUSE(NO_PARITY, 3);
         value[0] = (uint8_t)(v - 1);
     }
-    /* The rightmost data digit weighs 3: with 12 data digits the first weighs 1, with 7 or 11 it weighs 3. */
-    hand_over(mode, value, n, thirteen ? 1 : 3, 14 * half + 11, out, out_len, answer);
+    hand_over(mode, value, n, 14 * half + 11, out, out_len, answer);
 }
 
 void plain_read(uint8_t symbology, uint8_t mode, const uint8_t *strip, size_t strip_len,
@@ -644,7 +642,7 @@ ALWAYS void draw_five(int kind, uint8_t mode, const uint8_t *text, size_t len,
     if (kind == INTERLEAVED && n % 2 != 0)
         REFUSE(ODD_COUNT, 0);
     if (mode != 0) {
-        unsigned check = check_ten(value, n - 1, 1);
+        unsigned check = check_ten(value, n - 1);
         if (mode == 1 && check != value[n - 1])
             REFUSE(WRONG_CHECK, n - 1);
         value[n - 1] = (uint8_t)check;
@@ -695,7 +693,7 @@ ALWAYS void draw_ean(int thirteen, size_t half, uint8_t mode, const uint8_t *tex
     size_t good = digits(text, len, value);
     if (good < len)
         REFUSE(NO_BYTE, good);
-    unsigned check = check_ten(value, n - 1, thirteen ? 1 : 3);
+    unsigned check = check_ten(value, n - 1);
     if (mode == 1 && check != value[n - 1])
         REFUSE(WRONG_CHECK, n - 1);
     value[n - 1] = (uint8_t)check;

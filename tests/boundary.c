@@ -155,7 +155,8 @@ int main(void)
     refuses("mode 255", strip_read, STRIP_INTERLEAVED_2_OF_5, 255, strip, 17, ROOM, STRIP_NO_MODE, 0);
     refuses("one element missing", strip_read, STRIP_INTERLEAVED_2_OF_5, 0, strip, 16, ROOM, STRIP_BAD_LENGTH, 0);
     refuses("340 elements", strip_read, STRIP_CODE_39, 0, strip, 340, ROOM, STRIP_BAD_LENGTH, 0);
-    refuses("17 with a wrong check", strip_read, STRIP_INTERLEAVED_2_OF_5, 2, strip, 17, ROOM, STRIP_BAD_CHECK, 1);
+    strip_draw(STRIP_INTERLEAVED_2_OF_5, 0, (const uint8_t *)"19", 2, strip, sizeof strip, answer);
+    refuses("1 with the check 9 for 7", strip_read, STRIP_INTERLEAVED_2_OF_5, 2, strip, 17, ROOM, STRIP_BAD_CHECK, 1);
     strip[4] = 255;
     refuses("an element of 255", strip_read, STRIP_INTERLEAVED_2_OF_5, 0, strip, 17, ROOM, STRIP_NO_SUCH_UNIT, 4);
     strip_draw(STRIP_EAN_13, 2, (const uint8_t *)"000000000000", 12, strip, sizeof strip, answer);

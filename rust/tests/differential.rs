@@ -29,7 +29,7 @@ fn bytes(text: &str) -> Vec<u8> {
     text.bytes().filter(|b| *b != b' ').map(|b| b - b'0').collect()
 }
 
-/// What document 01 and source 001 print: both implementations must give just this.
+/// What document 01, ticket 1 of document 02 and source 001 print: both implementations must give just this.
 #[test]
 fn published() {
     let mut tally = Tally::new("published");
@@ -45,11 +45,11 @@ fn published() {
         assert_eq!(tally.data(symbology, mode, &bytes(widths)), Ok(data.as_bytes().to_vec()));
     }
     // Data in mode 2, and the same strip's data in mode 1. Full ASCII's drawn characters are those of Code 39.
-    let checks: [(u8, &str, u8, &str); 13] = [
+    let checks: [(u8, &str, u8, &str); 17] = [
         (5, "417", 5, "4176"),
         (5, "00417", 5, "004176"),
         (4, "0123456789", 4, "01234567895"),
-        (4, "10417", 4, "104175"),
+        (4, "10417", 4, "104173"),
         (7, "107622135746", 7, "1076221357468"),
         (8, "1076221", 8, "10762219"),
         (7, "000000000000", 7, "0000000000000"),
@@ -59,6 +59,11 @@ fn published() {
         (2, "a1", 1, "+A19"),
         (7, "123456789012", 7, "1234567890128"),
         (6, "0123456789", 6, "01234567895"),
+        // Figure 4.4, and EAN-8's figure 5.8 in the 2 of 5 codes: odd numbers of digits, weighed from the right.
+        (5, "012345678", 5, "0123456784"),
+        (4, "1076221", 4, "10762219"),
+        (5, "1076221", 5, "10762219"),
+        (6, "1076221", 6, "10762219"),
     ];
     for (symbology, data, other, checked) in checks {
         let strip = tally.strip(symbology, 2, data.as_bytes()).expect("drawn");
@@ -66,7 +71,7 @@ fn published() {
         assert_eq!(tally.data(symbology, 2, &strip), Ok(data.as_bytes().to_vec()));
         assert_eq!(tally.data(other, 1, &strip), Ok(checked.as_bytes().to_vec()));
     }
-    let refused: [(u8, u8, &str, u64, u64); 16] = [
+    let refused: [(u8, u8, &str, u64, u64); 18] = [
         (5, 0, "417", 5, 0),
         (2, 0, "abcdefghijklmnopq", 6, 0),
         (2, 1, "abcdefghijklmnopA", 6, 0),
@@ -83,6 +88,9 @@ fn published() {
         (2, 1, "a1A", 7, 3),
         (1, 0, "W*7", 4, 1),
         (8, 1, "10762210", 7, 7),
+        // By the rule of source 001, 4.6, which counts from the left, these would be right.
+        (5, 1, "0123456782", 7, 9),
+        (4, 1, "104175", 7, 5),
     ];
     for (symbology, mode, data, number, place) in refused {
         assert_eq!(tally.strip(symbology, mode, data.as_bytes()), Err((number, place)), "{data}");

@@ -10,7 +10,7 @@ use Rattle.tables.specs.Printed.{text}
 use Rattle.tables.specs.Alphabet.{valueOf, byteOf, rowsOf}
 use Rattle.tables.specs.TwoOfFive.{alphabetDigits, table44, digitRows, interleavedRows, interleavedStart, interleavedStop}
 use Rattle.rows.specs.Coders.{plain}
-use Rattle.rows.specs.Checks.{checkOf, by43, left10, right10}
+use Rattle.rows.specs.Checks.{checkOf, by43, right10}
 use Rattle.rows.specs.Symbologies.{symbologyOf, symbologies}
 use Rattle.rows.specs.Rows.{drawnRow, rowOf, rowOfField}
 use Rattle.units.specs.Plans.{interleaved, plans, planOf, unitsOf, stripOf}
@@ -23,7 +23,7 @@ use Rattle.jobs.specs.Run.{counted, endLine, stopLine, runFrom, run}
 use Rattle.jobs.specs.Example.{example, printed}
 
 pub example-prints : run example ≡ printed
-unfolding example printed runFrom counted endLine stopLine lineOf callOf decimal bodyOf known fieldOf fields drawField rowOf rowOfField drawnRow symbologyOf symbologies valueOf byteOf rowsOf plain checkOf by43 left10 right10 indexIn alphabetDigits table44 digitRows interleavedRows interleavedStart interleavedStop interleaved plans planOf unitsOf stripOf totals elementsOf modulesOf
+unfolding example printed runFrom counted endLine stopLine lineOf callOf decimal bodyOf known fieldOf fields drawField rowOf rowOfField drawnRow symbologyOf symbologies valueOf byteOf rowsOf plain checkOf by43 right10 indexIn alphabetDigits table44 digitRows interleavedRows interleavedStart interleavedStop interleaved plans planOf unitsOf stripOf totals elementsOf modulesOf
 example-prints = refl
 
 pub zero-prints : decimal 0 ≡ text "0"

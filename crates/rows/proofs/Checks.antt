@@ -1,7 +1,7 @@
 -- What a check catches, for every symbology with a check by one argument over the modulus and the weights.
 --
 --   Sound       a rule whose check is the one value that brings the weighted sum to a multiple of the modulus
---   sound43, sound-left, sound-right    the three rules are
+--   sound43, sound-right    the two rules are
 --   all-weights the weights of a whole row, the check's own last
 --   one-passes  exactly one character passes behind given ones: the check as document 01 words it
 --   caught      a row that passes does not pass with one of its characters replaced by another
@@ -18,7 +18,7 @@ use lib.ListN.{length, getD, set, length-reverse, length-set, length-append}
 use lib.Seq.{length-take-le}
 use Rattle.laws.specs.Weigh.{dot, turns, Inverses}
 use Rattle.laws.proofs.Weigh.{one-check, catches, inverses-append, inverses-turns, inverses-reverse, length-turns}
-use Rattle.rows.specs.Checks.{Rule, by43, left10, right10, nextTen, front, final, checkOf}
+use Rattle.rows.specs.Checks.{Rule, by43, right10, nextTen, front, final, checkOf}
 use Rattle.rows.proofs.Ends.{whole}
 
 pub record Sound (rule : Rule) (size : ℕ) : Type 0 where
@@ -47,28 +47,18 @@ sound43 = record {
 next-ten : (sum : ℕ) → nextTen sum ≡ 9 * sum % 10
 next-ten sum = omega arith
 
--- whatever the weights: one each, and each prime to ten
-sound-ten : (weights : ℕ → List ℕ) → ((n : ℕ) → length (weights n) ≡ n) → ((n : ℕ) → Inverses 10 (weights n)) → Sound (record { modulus = 10; weights = weights; check = nextTen }) 10
-sound-ten weights long inverses = record {
+pub sound-right : Sound right10 10
+unfolding right10
+sound-right = record {
   weight = 1;
   times = 9;
   modulus = refl;
   above = lit< tt;
   brings = refl;
   worded = next-ten;
-  long = long;
-  tells = λ n. inverses-append 10 (weights n) (1 ∷ []) (inverses n) ((1, refl), tt);
+  long = λ n. length-reverse (turns 3 1 n) ∙ length-turns 3 1 n;
+  tells = λ n. inverses-append 10 (reverse (turns 3 1 n)) (1 ∷ []) (inverses-reverse 10 (turns 3 1 n) (inverses-turns 10 3 1 n (7, refl) (1, refl))) ((1, refl), tt);
 }
-
-pub sound-left : Sound left10 10
-unfolding left10
-sound-left = sound-ten (λ n. turns 1 3 n) (length-turns 1 3) (λ n. inverses-turns 10 1 3 n (1, refl) (7, refl))
-
-pub sound-right : Sound right10 10
-unfolding right10
-sound-right =
-    sound-ten (λ n. reverse (turns 3 1 n)) (λ n. length-reverse (turns 3 1 n) ∙ length-turns 3 1 n)
-    (λ n. inverses-reverse 10 (turns 3 1 n) (inverses-turns 10 3 1 n (7, refl) (1, refl)))
 
 module _ (rule : Rule) (size : ℕ) (s : Sound rule size) where
   abbrev pub all-weights : ℕ → List ℕ

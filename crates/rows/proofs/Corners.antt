@@ -21,7 +21,7 @@ use Rattle.tables.specs.Code39.{alphabet39, chars39, table42}
 use Rattle.tables.specs.Codabar.{alphabetCodabar, table41}
 use Rattle.tables.specs.TwoOfFive.{alphabetDigits, table44}
 use Rattle.rows.specs.Coders.{plain, codabarCoder, fullCoder, shifts}
-use Rattle.rows.specs.Checks.{checkOf, by43, left10, right10}
+use Rattle.rows.specs.Checks.{checkOf, by43, right10}
 use Rattle.rows.specs.Symbologies.{symbologyOf, symbologies}
 use Rattle.rows.specs.Rows.{Outcome, gives, turned, dataPlace, charPlace, drawnRow, rowOf, rowOfField, readRow, dataOfCount, dataOf}
 
@@ -63,6 +63,8 @@ requests =
     ∷ rowOf 2 0 (text " 0-.Z") draws row 2 " 0-.Z"
     ∷ rowOf 2 2 (text "aaaaaaaaaaaaaaaa") gets TooManyDrawn
     ∷ rowOf 2 1 (text "aaaaaaaaaaaaaaaaA") gets TooManyDrawn
+    ∷ rowOf 4 2 (text "10417") draws row 4 "104173"
+    ∷ rowOf 6 1 (text "104175") gets BadCheck (charPlace 5)
     ∷ rowOf 5 1 (text "418") gets OddCount
     ∷ rowOf 5 1 (text "4175") gets BadCheck (charPlace 3)
     ∷ rowOf 5 2 (text "41") gets OddCount
@@ -94,6 +96,7 @@ rows =
     ∷ dataOf 2 1 (row 2 "+A19") draws text "a19"
     ∷ dataOf 2 2 (row 2 "+A19") draws text "a1"
     ∷ dataOf 5 2 (row 5 "004176") draws text "00417"
+    ∷ dataOf 5 2 (row 5 "0123456784") draws text "012345678"
     ∷ []
 
 -- each by itself, and one side only: the other is what it should compute to
@@ -106,8 +109,8 @@ sides [] s = refl
 sides (c ∷ cs) s = rw (s .0, sides cs (s .1))
 
 all : Same (requests ++ fields ++ rows)
-unfolding rowOf rowOfField drawnRow dataOf dataOfCount readRow byteFor symbologyOf symbologies valueOf byteOf plain codabarCoder fullCoder shifts checkOf by43 left10 right10 indexIn drawing ranges alphabet39 chars39 table42 alphabetCodabar table41 alphabetDigits table44
-all = (refl, (refl, (refl, (refl, (refl, (refl, (refl, (refl, (refl, (refl, (refl, (refl, (refl, (refl, (refl, (refl, (refl, (refl, (refl, (refl, (refl, (refl, (refl, (refl, (refl, (refl, (refl, (refl, (refl, (refl, (refl, (refl, (refl, (refl, (refl, (refl, (refl, (refl, (refl, (refl, (refl, (refl, (refl, (refl, (refl, (refl, (refl, tt)))))))))))))))))))))))))))))))))))))))))))))))
+unfolding rowOf rowOfField drawnRow dataOf dataOfCount readRow byteFor symbologyOf symbologies valueOf byteOf plain codabarCoder fullCoder shifts checkOf by43 right10 indexIn drawing ranges alphabet39 chars39 table42 alphabetCodabar table41 alphabetDigits table44
+all = (refl, (refl, (refl, (refl, (refl, (refl, (refl, (refl, (refl, (refl, (refl, (refl, (refl, (refl, (refl, (refl, (refl, (refl, (refl, (refl, (refl, (refl, (refl, (refl, (refl, (refl, (refl, (refl, (refl, (refl, (refl, (refl, (refl, (refl, (refl, (refl, (refl, (refl, (refl, (refl, (refl, (refl, (refl, (refl, (refl, (refl, (refl, (refl, (refl, (refl, tt))))))))))))))))))))))))))))))))))))))))))))))))))
 
 pub corners : map (λ (c : Outcome × Outcome). c .0) (requests ++ fields ++ rows) ≡ map (λ (c : Outcome × Outcome). c .1) (requests ++ fields ++ rows)
 corners = sides (requests ++ fields ++ rows) all

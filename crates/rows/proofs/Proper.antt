@@ -28,11 +28,11 @@ use Rattle.tables.proofs.Alphabets as Alphabets
 use Rattle.rows.specs.declared.limits.Limits.{Limits}
 use Rattle.rows.specs.Limits.{_to_, none, modes, unknown, offered}
 use Rattle.rows.specs.Coders.{plain, fullCoder}
-use Rattle.rows.specs.Checks.{Rule, nextTen, by43, left10, right10, noCheck}
+use Rattle.rows.specs.Checks.{Rule, nextTen, by43, right10, noCheck}
 use Rattle.rows.specs.Symbologies.{Symbology, digits, code39, codabar, symbologies, symbologyOf}
 use Rattle.rows.specs.Rows.{added}
 use Rattle.rows.proofs.Coders.{Single, Drawable, plain39, plain-digits, codabar-all, full-valid, full-drawable}
-use Rattle.rows.proofs.Checks.{Sound, sound43, sound-left, sound-right}
+use Rattle.rows.proofs.Checks.{Sound, sound43, sound-right}
 
 abbrev pub given : ℕ → ℕ
 given m = pick (eqb m 1) 1 0
@@ -123,13 +123,12 @@ proper-none : Proper (digits unknown noCheck false)
 unfolding noCheck
 proper-none = digital unknown noCheck false (λ sum. lit< tt) (checkless unknown noCheck 10 refl refl) refl refl
 
-by-left : (e : Bool) → Proper (digits (modes (1 to 32) (2 to 32) (1 to 31)) left10 e)
-unfolding left10
-by-left e = digital (modes (1 to 32) (2 to 32) (1 to 31)) left10 e ten (λ m o n. sound-left) refl refl
-
-by-right : (l : Limits) → length (l .most) ≡ 3 → upto 3 (count-test (digits l right10 false)) ≡ true → Proper (digits l right10 false)
+by-right : (l : Limits) (e : Bool) → length (l .most) ≡ 3 → upto 3 (count-test (digits l right10 e)) ≡ true → Proper (digits l right10 e)
 unfolding right10
-by-right l n t = digital l right10 false ten (λ m o n. sound-right) n t
+by-right l e n t = digital l right10 e ten (λ m o n. sound-right) n t
+
+two-of-five : (e : Bool) → Proper (digits (modes (1 to 32) (2 to 32) (1 to 31)) right10 e)
+two-of-five e = by-right (modes (1 to 32) (2 to 32) (1 to 31)) e refl refl
 
 proper39 : Proper (code39 (plain alphabet39) 34)
 unfolding by43 alphabet39 chars39
@@ -179,14 +178,14 @@ proper s =
           (
             proper-codabar,
             (
-              by-left false,
+              two-of-five false,
               (
-                by-left true,
+                two-of-five true,
                 (
-                  by-left false,
+                  two-of-five false,
                   (
-                    by-right (modes none (13 to 13) (12 to 12)) refl refl,
-                    (by-right (modes none (8 to 8) (7 to 7)) refl refl, (by-right (modes none (12 to 12) (11 to 11)) refl refl, tt)),
+                    by-right (modes none (13 to 13) (12 to 12)) false refl refl,
+                    (by-right (modes none (8 to 8) (7 to 7)) false refl refl, (by-right (modes none (12 to 12) (11 to 11)) false refl refl, tt)),
                   ),
                 ),
               ),

@@ -6,6 +6,8 @@
 --   state         "its state after each character is the definition's" (document 01): the weighted sum of the characters up to it, by the
 --                 weights of the symbology's rule
 --   checked       so the check off the sum that is held is the definition's
+--   even-stays    for the reader: behind an even number of digits the check is the one that source 001, 4.6, works out with weights 1, 3
+--                 and so on from the left; ticket 1 of document 02 changes odd numbers alone
 --   by-43, by-10, unchecked, past    the check of each symbology's number, as the match's arms ask for it
 --
 -- Assumes nothing.
@@ -26,7 +28,7 @@ use Rattle.laws.specs.Search.{pick}
 use Rattle.laws.specs.Weigh.{dot, turns, after}
 use Rattle.laws.proofs.Finite.{each-at, From, from-at}
 use Rattle.rows.specs.declared.check.Sum.{Sum}
-use Rattle.rows.specs.Checks.{nextTen, by43, left10, right10, noCheck, checkOf}
+use Rattle.rows.specs.Checks.{nextTen, by43, right10, noCheck, checkOf}
 use Rattle.rows.specs.Limits.{unknown}
 use Rattle.rows.specs.Symbologies.{digits, symbologies, symbologyOf}
 use Rattle.rows.specs.Held.{Small, taken, weighed, sumBy, fromRight, starts, startOf}
@@ -91,14 +93,14 @@ abbrev Weighs : ℕ → Type 0
 Weighs s = (n : ℕ) (xs : List ℕ) → length xs ≤ n → weighed (startOf s n) xs ≡ dot (symbologyOf s .rule .weights n) xs
 
 weighs-ten : From Weighs 0 10
-unfolding startOf symbologyOf symbologies by43 left10 right10 noCheck
+unfolding startOf symbologyOf symbologies by43 right10 noCheck
 weighs-ten = (
   no-weight,
   (
     from-left 43 1 1,
     (
       from-left 43 1 1,
-      (no-weight, (from-left 10 1 3, (from-left 10 1 3, (from-left 10 1 3, (from-right, (from-right, (from-right, tt))))))),
+      (no-weight, (from-right, (from-right, (from-right, (from-right, (from-right, (from-right, tt))))))),
     ),
   ),
 )
@@ -124,12 +126,16 @@ pub checked : (s n : ℕ) (xs : List ℕ) → length xs ≡ n → symbologyOf s 
 unfolding checkOf
 checked s n xs l = ap (symbologyOf s .rule .check) (rw (take-all n xs (omega arith)) at (state s n n xs l) ∙ rw l)
 
+pub even-stays : (xs : List ℕ) → length xs % 2 ≢ 1 → checkOf right10 xs ≡ nextTen (dot (turns 1 3 (length xs)) xs)
+unfolding checkOf right10
+even-stays xs e = rw (turned 3 1 (length xs) 0 .1 e, add-zero)
+
 pub by-43 : (s sum : ℕ) → 1 ≤ s → s < 3 → sum % 43 ≡ symbologyOf s .rule .check sum
 unfolding symbologyOf symbologies by43
 by-43 s sum = from-at (λ s. sum % 43 ≡ symbologyOf s .rule .check sum) 1 2 (refl, (refl, tt)) s
 
 pub by-10 : (s sum : ℕ) → 4 ≤ s → s < 10 → nextTen sum ≡ symbologyOf s .rule .check sum
-unfolding symbologyOf symbologies left10 right10
+unfolding symbologyOf symbologies right10
 by-10 s sum = from-at (λ s. nextTen sum ≡ symbologyOf s .rule .check sum) 4 6 (refl, (refl, (refl, (refl, (refl, (refl, tt)))))) s
 
 pub unchecked : (s : ℕ) (xs : List ℕ) → (s ≡ 0) ⊎ (s ≡ 3) → 0 ≡ checkOf (symbologyOf s .rule) xs
@@ -152,6 +158,5 @@ unfolding startOf
 small-start s n =
     let none : Small 0 (sumBy 1 0 0) = record { total = lit≤ tt; weight = lit≤ tt; other = lit≤ tt } in
     let ones : Small 0 (sumBy 43 1 1) = record { total = lit≤ tt; weight = lit≤ tt; other = lit≤ tt } in
-    let left : Small 0 (sumBy 10 1 3) = by-right false in
     let right : Small 0 (fromRight n) = by-right (eqb (n % 2) 1) in
-    each-at (Small 0) (starts n) (sumBy 1 0 0) (none, (ones, (ones, (none, (left, (left, (left, (right, (right, (right, tt)))))))))) none s
+    each-at (Small 0) (starts n) (sumBy 1 0 0) (none, (ones, (ones, (none, (right, (right, (right, (right, (right, (right, tt)))))))))) none s

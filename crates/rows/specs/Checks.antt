@@ -3,8 +3,8 @@
 --   Rule        a modulus, the weights of n characters before the check, and the check of their weighted sum
 --   nextTen     what brings a sum to the next multiple of ten, 0 where it is one already
 --   by43        sum of the values, remainder by 43
---   left10      modulus 10, odd positions counted from the left weigh 1, even ones 3 (source 001, 4.6)
---   right10     modulus 10, the rightmost weighs 3, then 1, 3 and so on
+--   right10     modulus 10, the rightmost weighs 3, then 1, 3 and so on (in 4 to 6 by ticket 1 of document 02, and no longer by
+--               source 001, 4.6, which counts from the left)
 --   noCheck     no rule: modes 1 and 2 are not offered
 --   front, final    a row without its last character, and that character
 --   checkOf     the check of the characters before it
@@ -27,9 +27,6 @@ nextTen sum = (10 - sum % 10) % 10
 
 unfoldable pub by43 : Rule
 by43 = record { modulus = 43; weights = λ n. turns 1 1 n; check = λ sum. sum % 43 }
-
-unfoldable pub left10 : Rule
-left10 = record { modulus = 10; weights = λ n. turns 1 3 n; check = nextTen }
 
 unfoldable pub right10 : Rule
 right10 = record { modulus = 10; weights = λ n. reverse (turns 3 1 n); check = nextTen }

@@ -106,9 +106,9 @@ starts n =
     ∷ sumBy 43 1 1
     ∷ sumBy 43 1 1
     ∷ sumBy 1 0 0
-    ∷ sumBy 10 1 3
-    ∷ sumBy 10 1 3
-    ∷ sumBy 10 1 3
+    ∷ fromRight n
+    ∷ fromRight n
+    ∷ fromRight n
     ∷ fromRight n
     ∷ fromRight n
     ∷ fromRight n

@@ -16,7 +16,7 @@ use Rattle.tables.specs.TwoOfFive.{alphabetDigits}
 use Rattle.rows.specs.declared.limits.Limits.{Limits}
 use Rattle.rows.specs.Limits.{_to_, none, modes, unknown}
 use Rattle.rows.specs.Coders.{plain, codabarCoder, fullCoder}
-use Rattle.rows.specs.Checks.{Rule, by43, left10, right10, noCheck}
+use Rattle.rows.specs.Checks.{Rule, by43, right10, noCheck}
 
 pub record Symbology : Type 0 where
   pub limits : Limits
@@ -41,9 +41,9 @@ symbologies =
     ∷ code39 (plain alphabet39) 34
     ∷ code39 fullCoder 32
     ∷ codabar
-    ∷ digits (modes (1 to 32) (2 to 32) (1 to 31)) left10 false
-    ∷ digits (modes (1 to 32) (2 to 32) (1 to 31)) left10 true
-    ∷ digits (modes (1 to 32) (2 to 32) (1 to 31)) left10 false
+    ∷ digits (modes (1 to 32) (2 to 32) (1 to 31)) right10 false
+    ∷ digits (modes (1 to 32) (2 to 32) (1 to 31)) right10 true
+    ∷ digits (modes (1 to 32) (2 to 32) (1 to 31)) right10 false
     ∷ digits (modes none (13 to 13) (12 to 12)) right10 false
     ∷ digits (modes none (8 to 8) (7 to 7)) right10 false
     ∷ digits (modes none (12 to 12) (11 to 11)) right10 false

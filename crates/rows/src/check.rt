@@ -44,14 +44,13 @@ pub fn sum_of(start: Sum, codes: &[u8; 34], n: usize) -> usize
     sum.total
 }
 
-// An empty sum, with the weights of n characters: from the left 1, 3 and so on, from the right 3, 1 and so on.
+// An empty sum, with the weights of n characters: by ten the rightmost weighs 3, then 1, 3 and so on.
 fn start_of(symbology: u8, n: usize) -> Sum
     ensures { λ r. ⌜ r ≡ startOf symbology n ⌝ }
 {
     match symbology {
         1 | 2 => sum_by(43, 1, 1),
-        4 | 5 | 6 => sum_by(10, 1, 3),
-        7 | 8 | 9 => {
+        4 | 5 | 6 | 7 | 8 | 9 => {
             if n % 2 == 1 {
                 sum_by(10, 3, 1)
             } else {

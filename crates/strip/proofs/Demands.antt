@@ -3,6 +3,7 @@
 --
 -- The statements are over the calls' own promises: `Draw.Learnt` is the contract of `draw` as it stands in src/lib.rt, so that no statement
 -- can drift from it. `Draws s m d t` (Requests.antt): an accepted request of symbology s and mode m, with the data d, draws the strip t.
+-- Demands 2 and 3 read with ticket 1 of document 02: symbologies 4 to 6 weigh their digits from the right, as 7 to 9 do.
 --
 --   Allowed     a call that a contract allows: its arguments, its answer, and the parameters after it. Of `draw` and of `read`:
 --               symbology, mode, given (the data, or the strip), room and after (the lent buffer before the call and after it)

@@ -1,4 +1,5 @@
--- The rows that document 01, "What the bench compares", marks P, in its order. proofs/Bench.antt: all of them hold.
+-- The rows that document 01, "What the bench compares", marks P, in its order; Industrial 10417 gets 3 by ticket 1 of document 02.
+-- proofs/Bench.antt: all of them hold.
 --
 --   Says      what a row says: `draws-strip`, the strip and its total of modules; `draws`, the drawn characters, the check
 --             among them; `gets`, the check that is drawn behind the data
@@ -47,7 +48,7 @@ bench =
     ∷ row 5 2 "417" (draws "4176")
     ∷ row 5 2 "00417" (draws "004176")
     ∷ row 4 2 "0123456789" (gets "5")
-    ∷ row 4 2 "10417" (gets "5")
+    ∷ row 4 2 "10417" (gets "3")
     ∷ row 7 2 "107622135746" (gets "8")
     ∷ row 8 2 "1076221" (gets "9")
     ∷ row 7 2 "000000000000" (gets "0")

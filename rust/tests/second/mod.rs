@@ -155,13 +155,12 @@ pub fn check(symbology: u8, before: &[u8]) -> u8 {
         let value = |c: &u8| VALUES.iter().position(|v| v == c).expect("a character of table 4.3");
         return VALUES[before.iter().map(value).sum::<usize>() % 43];
     }
+    // The rightmost weighs 3, then 1, 3 and so on (4 to 6: document 02, ticket 1).
     let mut sum = 0;
-    for (i, digit) in before.iter().enumerate() {
-        let three = match symbology {
-            4..=6 => i % 2 == 1,                  // even positions, counted from 1 at the left
-            _ => (before.len() - 1 - i) % 2 == 0, // the rightmost and every second one from it
-        };
-        sum += u32::from(digit - b'0') * if three { 3 } else { 1 };
+    let mut weight = 3;
+    for digit in before.iter().rev() {
+        sum += weight * u32::from(digit - b'0');
+        weight = 4 - weight;
     }
     let mut check = 0;
     while (sum + u32::from(check)) % 10 != 0 {
