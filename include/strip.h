@@ -46,6 +46,10 @@ enum strip_symbology {
  * Mode 1: the last byte must be the right check.
  * Mode 2: the check is worked out and drawn after the data; the reader tests it and does not hand it back.
  * Drawn characters include the check, and in Codabar the start and stop letters, which are data there.
+ *
+ * The check of 1 and 2 is the character whose value is the sum of the values of the drawn characters before it, by 43 (0-9, A-Z, then
+ * - . space $ / + % have the values 0 to 42). The check of 4 to 9 brings a sum of the digits before it to the next multiple of ten, and is 0 where
+ * it is one already; the rightmost of them weighs 3, the next to the left 1, then 3 and so on.
  */
 
 /*

@@ -63,6 +63,9 @@ impl Symbology {
 }
 
 /// What is done about the check. Codabar offers `Plain` alone; EAN and UPC offer the other two.
+///
+/// Code 39's check is the sum of the values of the drawn characters before it, by 43. That of the 2 of 5 codes, EAN and UPC brings the sum
+/// of the digits before it to the next multiple of ten; the rightmost of them weighs 3, then 1, 3 and so on.
 #[derive(Clone, Copy, PartialEq, Eq, Debug, Hash, PartialOrd, Ord)]
 pub enum Mode {
     /// 0: there is no check; the last byte is plain data.
