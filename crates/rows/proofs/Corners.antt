@@ -1,4 +1,5 @@
--- Corners of document 01, computed from the definitions: which answer a request, a field or a row gets.
+-- Corners of document 01 and of ticket 1 of document 02 (4, 5 and 6 each behind an odd number of digits), computed from the definitions: which
+-- answer a request, a field or a row gets.
 --
 --   requests    1 to 7, and which of two comes first
 --   fields      3, 13 and 4 in this order
