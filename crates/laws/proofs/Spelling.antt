@@ -12,7 +12,8 @@
 --   spell-long      there are at least as many characters as bytes; unspell-short, also where they are read back
 --   spell-same      and just as many where no byte draws a pair; spell-few, at most twice as many
 --   spell-stops     a byte that is not allowed is one of them; unspell-stops, and so is the character where a failing item begins
---   Below, below-test, below, below-at    every entry is below a bound; by a test; at an index
+--   Below, below-test, below, below-at, below-all    every entry is below a bound; by a test; at an index; if it is at each
+--   below-set, below-split    one entry replaced by another below the bound; in two parts
 --   spell-below     every character is below a bound where every drawn one is
 --
 -- Assumes nothing.
@@ -24,7 +25,7 @@ use native.Mathlib.Omega.{arith}
 use native.Mathlib.Decide.{decLt}
 use native.Mathlib.Nat.{le-of-suc-le-suc, not-suc-le-zero}
 use lib.Dec.{ltb}
-use lib.ListN.{length, getD}
+use lib.ListN.{length, getD, take, drop, set}
 use borrow.Author.Tests.{ltb-true, lt-ltb}
 use Rattle.laws.specs.Search.{pick}
 use Rattle.laws.specs.Elements.{alike}
@@ -309,6 +310,20 @@ pub below-at : (n : ℕ) (xs : List ℕ) (i : ℕ) → Below n xs → i < length
 below-at n [] i b h = absurd (not-suc-le-zero h)
 below-at n (x ∷ xs) zero b h = b .0
 below-at n (x ∷ xs) (suc i) b h = below-at n xs i (b .1) (le-of-suc-le-suc h)
+
+pub below-all : (n : ℕ) (xs : List ℕ) → ((i : ℕ) → i < length xs → getD xs i 0 < n) → Below n xs
+below-all n [] f = tt
+below-all n (x ∷ xs) f = (f 0 (omega arith), below-all n xs (λ i h. f (suc i) (omega arith)))
+
+pub below-set : (n : ℕ) (xs : List ℕ) (i v : ℕ) → Below n xs → v < n → Below n (set xs i v)
+below-set n [] i v b h = tt
+below-set n (x ∷ xs) zero v b h = (h, b .1)
+below-set n (x ∷ xs) (suc i) v b h = (b .0, below-set n xs i v (b .1) h)
+
+pub below-split : (n k : ℕ) (xs : List ℕ) → Below n xs → Below n (take k xs) × Below n (drop k xs)
+below-split n zero xs b = (tt, b)
+below-split n (suc k) [] b = (tt, tt)
+below-split n (suc k) (x ∷ xs) b = let q : Below n (take k xs) × Below n (drop k xs) = below-split n k xs (b .1) in ((b .0, q .0), q .1)
 
 below-join : (n : ℕ) (cs : List ℕ) (z : Reading) (h : List ℕ) → Below n cs → ((g : List ℕ) → z ≡ found g → Below n g) → join cs z ≡ found h → Below n h
 below-join n [] z h b ih e = ih h e

@@ -1,11 +1,14 @@
 -- The weighted sum of a row, its check, and what a check catches: once, over the modulus and the weights. Values may pass the
 -- modulus, weights may be any, and the check may stand anywhere in the row; it has a weight of its own.
 --
+--   dot-set       one value replaced in a weighted sum
 --   replaced      one value replaced: the sum's remainder stays exactly if the value's does
 --   catches       so a row that passes does not pass with one value replaced by another
 --   one-check     exactly one value below the modulus passes as the check
 --   inverses-turns, inverses-append, inverses-reverse     weights that have inverses
 --   length-turns  as many weights as were asked for
+--   turns-one     one weight that takes turns with itself
+--   turns-turned  weights that take turns, counted from the other end, with weights behind them that go on taking turns
 --
 -- A row passes where its weighted sum is 0 by the modulus. All of it rests on `balance`. Assumes nothing.
 use mathlib.Core.Path.{_≡_, refl, sym, ap, _∙_}
@@ -20,7 +23,7 @@ use Rattle.laws.proofs.Remainders.{mul-mod, times, plus, balance, apart
 
 -- ---- one value replaced
 
-dot-set : (ws xs : List ℕ) (i y : ℕ) → i < length xs → dot ws (set xs i y) + getD ws i 0 * getD xs i 0 ≡ dot ws xs + getD ws i 0 * y
+pub dot-set : (ws xs : List ℕ) (i y : ℕ) → i < length xs → dot ws (set xs i y) + getD ws i 0 * getD xs i 0 ≡ dot ws xs + getD ws i 0 * y
 dot-set [] xs i y h = omega arith
 dot-set (w ∷ ws) [] i y h = absurd (not-suc-le-zero h)
 dot-set (w ∷ ws) (x ∷ xs) zero y h = omega arith
@@ -98,3 +101,15 @@ inverses-reverse m ws a = inverses-aux m ws [] a tt
 pub length-turns : (w v n : ℕ) → length (turns w v n) ≡ n
 length-turns w v zero = refl
 length-turns w v (suc n) = ap suc (length-turns v w n)
+
+pub turns-one : (w n i : ℕ) → i < n → getD (turns w w n) i 0 ≡ w
+turns-one w zero i h = absurd (not-suc-le-zero h)
+turns-one w (suc n) zero h = refl
+turns-one w (suc n) (suc i) h = turns-one w n i (le-of-suc-le-suc h)
+
+pub turns-turned : (w v n m : ℕ)
+    → (n % 2 ≡ 1 → reverseAux (turns w v n) (turns v w m) ≡ turns w v (n + m)) × (n % 2 ≢ 1 → reverseAux (turns w v n) (turns v w m) ≡ turns v w (n + m))
+turns-turned w v zero m = (λ o. absurd (omega arith), λ o. rw zero-add)
+turns-turned w v (suc n) m =
+    let e : n + suc m ≡ suc n + m = omega arith in
+    (λ o. turns-turned v w n (suc m) .1 (omega arith) ∙ ap (turns w v) e, λ o. turns-turned v w n (suc m) .0 (omega arith) ∙ ap (turns v w) e)

@@ -14,7 +14,7 @@
 use mathlib.Core.Path.{_≡_, refl, sym, ap, _∙_}
 use mathlib.Core.Logic.{_⊎_, inl, inr, _≢_}
 use mathlib.Core.Bool.{Bool, true, false}
-use mathlib.Core.List.{List, [], _∷_, reverse, reverseAux}
+use mathlib.Core.List.{List, [], _∷_, reverse}
 use Prim.Native.Nat.{ℕ, zero, suc, _+_, _*_, _%_, _<_, _≤_}
 use native.Mathlib.Omega.{arith}
 use native.Mathlib.Nat.{mul-le-mul, add-assoc, zero-add, add-zero}
@@ -27,6 +27,7 @@ use borrow.Author.Tests.{eqb-true, eqb-false}
 use Rattle.laws.specs.Search.{pick}
 use Rattle.laws.specs.Weigh.{dot, turns, after}
 use Rattle.laws.proofs.Finite.{each-at, From, from-at}
+use Rattle.laws.proofs.Weigh.{turns-turned}
 use Rattle.rows.specs.declared.check.Sum.{Sum}
 use Rattle.rows.specs.Checks.{nextTen, by43, right10, noCheck, checkOf}
 use Rattle.rows.specs.Limits.{unknown}
@@ -66,19 +67,12 @@ dot-turns w v (suc n) (x ∷ xs) h = rw (dot-turns v w n xs (omega arith))
 from-left : (m w v n : ℕ) (xs : List ℕ) → length xs ≤ n → weighed (sumBy m w v) xs ≡ dot (turns w v n) xs
 from-left m w v n xs l = weighed-dot (sumBy m w v) xs ∙ zero-add (dot (turns w v (length xs)) xs) ∙ dot-turns w v n xs l
 
--- turns, from the right
-turned : (w v n m : ℕ) → (n % 2 ≡ 1 → reverseAux (turns w v n) (turns v w m) ≡ turns w v (n + m)) × (n % 2 ≢ 1 → reverseAux (turns w v n) (turns v w m) ≡ turns v w (n + m))
-turned w v zero m = (λ o. absurd (omega arith), λ o. rw zero-add)
-turned w v (suc n) m =
-    let e : n + suc m ≡ suc n + m = omega arith in
-    (λ o. turned v w n (suc m) .1 (omega arith) ∙ ap (turns w v) e, λ o. turned v w n (suc m) .0 (omega arith) ∙ ap (turns v w) e)
-
 from-right : (n : ℕ) (xs : List ℕ) → length xs ≤ n → weighed (fromRight n) xs ≡ dot (reverse (turns 3 1 n)) xs
 from-right n xs l = go (eqb (n % 2) 1) refl
   where
     go : (b : Bool) → eqb (n % 2) 1 ≡ b → weighed (pick b (sumBy 10 3 1) (sumBy 10 1 3)) xs ≡ dot (reverse (turns 3 1 n)) xs
-    go true e = rw (turned 3 1 n 0 .0 (eqb-true _ 1 e), add-zero) (from-left 10 3 1 n xs l)
-    go false e = rw (turned 3 1 n 0 .1 (eqb-false _ 1 e), add-zero) (from-left 10 1 3 n xs l)
+    go true e = rw (turns-turned 3 1 n 0 .0 (eqb-true _ 1 e), add-zero) (from-left 10 3 1 n xs l)
+    go false e = rw (turns-turned 3 1 n 0 .1 (eqb-false _ 1 e), add-zero) (from-left 10 1 3 n xs l)
 
 dot-zeros : (n : ℕ) (xs : List ℕ) → dot (turns 0 0 n) xs ≡ 0
 dot-zeros zero xs = refl
@@ -128,7 +122,7 @@ checked s n xs l = ap (symbologyOf s .rule .check) (rw (take-all n xs (omega ari
 
 pub even-stays : (xs : List ℕ) → length xs % 2 ≢ 1 → checkOf right10 xs ≡ nextTen (dot (turns 1 3 (length xs)) xs)
 unfolding checkOf right10
-even-stays xs e = rw (turned 3 1 (length xs) 0 .1 e, add-zero)
+even-stays xs e = rw (turns-turned 3 1 (length xs) 0 .1 e, add-zero)
 
 pub by-43 : (s sum : ℕ) → 1 ≤ s → s < 3 → sum % 43 ≡ symbologyOf s .rule .check sum
 unfolding symbologyOf symbologies by43

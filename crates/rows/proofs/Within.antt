@@ -1,9 +1,9 @@
 -- What a row that is drawn holds: it fits its 34 places, and every character is of its set.
 --
---   check-is     in modes 1 and 2 the last character is the check
---   in-set       every character of a row that reads is of its set
---   drawn-few    a row that is drawn has 1 to 34 characters
---   drawn-in     each of its set (for the reader: `ready` in units says it by place)
+--   check-is         in modes 1 and 2 the last character is the check
+--   in-set, all-in   every character of a row that reads is of its set
+--   drawn-few        a row that is drawn has 1 to 34 characters
+--   drawn-in         each of its set (for the reader: `ready` in units says it by place)
 --
 -- Assumes nothing.
 use mathlib.Core.Path.{_≡_}
@@ -16,7 +16,7 @@ use native.Mathlib.Decide.{decLt}
 use lib.ListN.{length, getD}
 use lib.Seq.{getD-take, length-take-le}
 use borrow.Author.Tests.{eqb-true, ne-eqb}
-use Rattle.laws.proofs.Spelling.{unspell-spell, Below, below-at, spell-below}
+use Rattle.laws.proofs.Spelling.{unspell-spell, Below, below-at, below-all, spell-below}
 use Rattle.tables.specs.Alphabet.{size}
 use Rattle.rows.specs.Checks.{front, final, checkOf}
 use Rattle.rows.specs.Symbologies.{symbologyOf}
@@ -50,6 +50,9 @@ in-set s (suc m) d r a i h = go (decLt i (length r - 1))
         let b : Below (size (symbologyOf s .alphabet)) (front r) = rw (ne-eqb (suc m) 0 checked) at (head-in s (suc m) d r a) in
         rw (getD-take (length r - 1) r i 0 k) at (below-at (size (symbologyOf s .alphabet)) (front r) i b (rw (length-take-le (length r - 1) r (omega arith)) k))
     go (no k) = let e : i ≡ length r - 1 = omega arith in rw e (last-in s (suc m) d r checked a)
+
+pub all-in : (s m : ℕ) (d r : List ℕ) → Reads s m d r → Below (size (symbologyOf s .alphabet)) r
+all-in s m d r a = below-all (size (symbologyOf s .alphabet)) r (in-set s m d r a)
 
 module _ (s m : ℕ) (d r : List ℕ) (e : rowOf s m d ≡ gives r) where
   read-back : Reads s m d r

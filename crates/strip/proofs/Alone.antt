@@ -25,7 +25,7 @@ use Rattle.laws.specs.Search.{pick}
 use Rattle.laws.specs.Units.{Reading, found, stopped}
 use Rattle.laws.specs.Spelling.{Coder, spell, byteFor, gave, unspell}
 use Rattle.laws.proofs.Finite.{both-left, both-right}
-use Rattle.laws.proofs.Spelling.{Drawn, none, alone, pair, spell-same}
+use Rattle.laws.proofs.Spelling.{Drawn, none, alone, pair, spell-same, below-split}
 use Rattle.words.specs.declared.Answer.{Answer}
 use Rattle.words.specs.Said.{saidOf}
 use Rattle.tables.specs.Alphabet.{size}
@@ -40,7 +40,7 @@ use Rattle.rows.proofs.Proper.{Counts, proper}
 use Rattle.rows.proofs.Numbers.{others, unshifted, only-five}
 use Rattle.rows.proofs.Undo.{held, empty-rest}
 use Rattle.units.specs.Laid.{allowed, allAllowed, ready}
-use Rattle.units.proofs.Ready.{ready-allowed, below-allowed, ready-below, no-codabar, below-split}
+use Rattle.units.proofs.Ready.{ready-allowed, below-allowed, ready-below, no-codabar}
 use Rattle.reads.specs.Seen.{countOf, unlike, seen, rowSeen}
 use Rattle.reads.proofs.Exact.{seen-drawn}
 use Rattle.strip.specs.Drawing.{drawField}

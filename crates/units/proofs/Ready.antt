@@ -7,7 +7,6 @@
 --   counted-by      a count that some mode draws is a count of the symbology
 --   drawn-ready     a row that is drawn is ready
 --   letter-high, letter-low    Codabar's letters have the values 16 to 19
---   below-split     characters of one set, in two parts
 --   Sided, sided-is    EAN-13's twelve units, the first six of either left set
 --   ready-fits      the choices that a ready row makes fit the units of its strip
 --   steady-39, steady-industrial, steady-interleaved, steady-matrix, steady-left, steady-odd    every free set of these strips is uniform
@@ -25,7 +24,7 @@ use native.Mathlib.Omega.{arith}
 use native.Mathlib.Nat.{le-of-suc-le-suc, not-suc-le-zero, mod-lt}
 use native.Mathlib.Decide.{ℕ-discrete}
 use lib.Dec.{eqb, ltb, leb, lit<}
-use lib.ListN.{length, getD, take, drop, length-drop}
+use lib.ListN.{length, take, drop, length-drop}
 use lib.Seq.{take-length, drop-length}
 use borrow.Author.Tests.{ltb-true, leb-true, lt-ltb, le-leb, ne-eqb}
 use Rattle.laws.specs.Search.{pick}
@@ -34,7 +33,7 @@ use Rattle.laws.specs.Shapes.{many, shape}
 use Rattle.laws.specs.Spelling.{atEnd, byteFor, gave, unspell}
 use Rattle.laws.proofs.Finite.{both-left, both-right, both-true, each-at, From}
 use Rattle.laws.proofs.Shapes.{all-shape}
-use Rattle.laws.proofs.Spelling.{Below}
+use Rattle.laws.proofs.Spelling.{Below, below-split}
 use Rattle.tables.specs.Bits.{bit}
 use Rattle.tables.specs.Alphabet.{size, byteOf, rowsOf}
 use Rattle.tables.specs.Code39.{table42, chars39, alphabet39, rows39}
@@ -49,7 +48,7 @@ use Rattle.rows.specs.Rows.{gives, rowOf}
 use Rattle.rows.proofs.Coders.{alone-codabar}
 use Rattle.rows.proofs.Proper.{proper}
 use Rattle.rows.proofs.Undo.{Reads, reads, undo}
-use Rattle.rows.proofs.Within.{in-set}
+use Rattle.rows.proofs.Within.{all-in}
 use Rattle.units.specs.Plans.{Plan, lettered, paired, sides, sided, code39, codabar, industrial, interleaved, matrix, halves, nothing, plans, planOf, unitsOf}
 use Rattle.units.specs.Totals.{totals, elementsOf}
 use Rattle.units.specs.Laid.{counts, counted, allowed, allAllowed, ready}
@@ -107,10 +106,6 @@ counted-by s n (suc (suc (suc m))) l e = absurd (omega arith)
 reads-counted : (s m : ℕ) (d r : List ℕ) → Reads s m d r → counted s (length r) ≡ true
 reads-counted s m d r a = counted-by s (length r) m (proper s .counts m (a .offers) .mode) (rw (a .offers, a .count, a .paired))
 
-below-all : (n : ℕ) (r : List ℕ) → ((i : ℕ) → i < length r → getD r i 0 < n) → Below n r
-below-all n [] f = tt
-below-all n (c ∷ cs) f = (f 0 (omega arith), below-all n cs (λ i h. f (suc i) (omega arith)))
-
 -- in Codabar a byte is found only for a character that may stand there
 module _ (at : ℕ) (d : List ℕ) where
   gave-allowed : (t : Bool) (v : ℕ) (z : Reading) → gave at (pick t v 256) z ≡ found d → t ≡ true
@@ -155,7 +150,7 @@ codabar-allowed m d r z a = unspell-allowed r true 0 (a .row .body) (rw z at (a 
 
 reads-allowed : (s m : ℕ) (d r : List ℕ) → Reads s m d r → Dec (s ≡ 3) → allAllowed s true r ≡ true
 reads-allowed s m d r a (yes e) = rw e (let b : Reads 3 m d r = rw e at a in codabar-allowed m d r (codabar-mode m (b .offers)) b)
-reads-allowed s m d r a (no n) = below-allowed s (ne-eqb s 3 n) true r (below-all (size (symbologyOf s .alphabet)) r (in-set s m d r a))
+reads-allowed s m d r a (no n) = below-allowed s (ne-eqb s 3 n) true r (all-in s m d r a)
 
 pub drawn-ready : (s m : ℕ) (d r : List ℕ) → rowOf s m d ≡ gives r → ready s r ≡ true
 unfolding ready
@@ -217,11 +212,6 @@ fits-codabar (a ∷ b ∷ cs) l e =
     rw n (letter-low a (both-left (placed true a) (allAllowed 3 false (b ∷ cs)) e), fits-inner b cs (both-right (placed true a) (allAllowed 3 false (b ∷ cs)) e))
 
 -- ---- EAN and UPC: two halves
-
-pub below-split : (n k : ℕ) (r : List ℕ) → Below n r → Below n (take k r) × Below n (drop k r)
-below-split n zero r p = (tt, p)
-below-split n (suc k) [] p = (tt, tt)
-below-split n (suc k) (c ∷ cs) p = let q : Below n (take k cs) × Below n (drop k cs) = below-split n k cs (p .1) in ((p .0, q .0), q .1)
 
 fits-halves : (b k : ℕ) (left : List (List ℕ)) (cs : List ℕ) → b ≤ length left → length cs ≡ k + k → Below b (take k cs) → Below 10 (drop k cs)
     → Fits (many k (free left ∷ []) (fixed centre ∷ many k (free rightRows ∷ []) (fixed guard ∷ []))) cs

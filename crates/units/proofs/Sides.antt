@@ -22,7 +22,7 @@ use borrow.Author.Tests.{ltb-true, ltb-false, lt-ltb, le-ltb}
 use Rattle.laws.specs.Search.{pick}
 use Rattle.laws.specs.Units.{free, strip}
 use Rattle.laws.specs.Shapes.{shape}
-use Rattle.laws.proofs.Spelling.{Below, below-at}
+use Rattle.laws.proofs.Spelling.{Below, below-at, below-split}
 use Rattle.tables.specs.Bits.{bit}
 use Rattle.tables.specs.Ean.{oddRows, leftRows, paritiesOf}
 use Rattle.units.specs.Plans.{halves, sides, sided, plans, planOf, unitsOf, stripOf}
@@ -30,7 +30,7 @@ use Rattle.units.specs.Totals.{totals, elementsOf}
 use Rattle.units.specs.Laid.{ready}
 use Rattle.units.specs.Room.{sideAt, leftIn, rightIn, textEan}
 use Rattle.units.proofs.Counted.{counted-ean13, counted-ean8, counted-upc}
-use Rattle.units.proofs.Ready.{below-split, Sided, sided-is}
+use Rattle.units.proofs.Ready.{Sided, sided-is}
 use Rattle.units.proofs.Putting.{more}
 use Rattle.units.proofs.Parts.{Shows, shows-left, shows-odd, two-halves}
 use Rattle.units.proofs.Given.{count, below-digits}
