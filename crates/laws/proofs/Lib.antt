@@ -8,4 +8,5 @@ pub mod Shapes
 pub mod Spelling
 pub mod Remainders
 pub mod Weigh
+pub mod Neighbours
 pub mod Only
