@@ -1,22 +1,27 @@
 -- What a check catches, for every symbology with a check by one argument over the modulus and the weights.
 --
 --   Sound       a rule whose check is the one value that brings the weighted sum to a multiple of the modulus
+--   next-ten    what brings a sum to the next multiple of ten is nine times it, by ten
 --   sound43, sound-right    the two rules are
 --   all-weights the weights of a whole row, the check's own last
 --   one-passes  exactly one character passes behind given ones: the check as document 01 words it
 --   caught      a row that passes does not pass with one of its characters replaced by another
+--   exchanged   a row that passes, two neighbours exchanged, passes exactly if the modulus divides the product of the differences
 --
 -- Assumes nothing.
 use mathlib.Core.Path.{_≡_, refl, sym, _∙_}
-use mathlib.Core.Logic.{_↔_, _≢_}
+use mathlib.Core.Logic.{_↔_, _≢_, Iff·symm, Iff·trans}
 use mathlib.Core.List.{List, [], _∷_, _++_, reverse}
-use Prim.Native.Nat.{ℕ, _+_, _-_, _*_, _%_, _<_}
+use Prim.Native.Nat.{ℕ, suc, _+_, _-_, _*_, _%_, _<_}
 use native.Mathlib.Omega.{arith}
 use native.Mathlib.Nat.{one-mul, add-zero, mod-eq-of-lt, mod-lt}
 use lib.Dec.{lit<}
 use lib.ListN.{length, getD, set, length-reverse, length-set, length-append}
 use lib.Seq.{length-take-le}
 use Rattle.laws.specs.Weigh.{dot, turns, Inverses}
+use Rattle.laws.specs.Neighbours.{swapped, difference}
+use Rattle.laws.proofs.Spelling.{Below, below-at}
+use Rattle.laws.proofs.Neighbours.{length-swapped, below-swapped, exchanged as swaps}
 use Rattle.laws.proofs.Weigh.{one-check, catches, inverses-append, inverses-turns, inverses-reverse, length-turns}
 use Rattle.rows.specs.Checks.{Rule, by43, right10, nextTen, front, final, checkOf}
 use Rattle.rows.proofs.Ends.{whole}
@@ -31,7 +36,7 @@ pub record Sound (rule : Rule) (size : ℕ) : Type 0 where
   pub long : (n : ℕ) → length (rule .weights n) ≡ n
   pub tells : (n : ℕ) → Inverses size (rule .weights n ++ (weight ∷ []))
 
-pub sound43 : Sound by43 43
+unfoldable pub sound43 : Sound by43 43
 unfolding by43
 sound43 = record {
   weight = 42;
@@ -44,10 +49,10 @@ sound43 = record {
   tells = λ n. inverses-append 43 (turns 1 1 n) (42 ∷ []) (inverses-turns 43 1 1 n (1, refl) (1, refl)) ((42, refl), tt);
 }
 
-next-ten : (sum : ℕ) → nextTen sum ≡ 9 * sum % 10
+pub next-ten : (sum : ℕ) → nextTen sum ≡ 9 * sum % 10
 next-ten sum = omega arith
 
-pub sound-right : Sound right10 10
+unfoldable pub sound-right : Sound right10 10
 unfolding right10
 sound-right = record {
   weight = 1;
@@ -75,17 +80,28 @@ module _ (rule : Rule) (size : ℕ) (s : Sound rule size) where
   unfolding checkOf
   check-below h = rw (s .worded) (mod-lt _ (s .above))
 
-  -- a row whose last character is its check weighs 0 by the modulus
-  weighs : (r : List ℕ) → 0 < length r → final r ≡ checkOf rule (front r) → dot (all-weights (length r - 1)) r % size ≡ 0
-  weighs r h e =
-      let n : length (front r) ≡ length r - 1 = length-take-le (length r - 1) r (omega arith) in
-      let b : final r < size = rw e (check-below (front r)) in
-      rw (n, whole r h) at (one-passes (front r) (final r) b .1 e)
+  final-below : (r : List ℕ) → final r ≡ checkOf rule (front r) → final r < size
+  final-below r e = rw e (check-below (front r))
+
+  -- the last character of a row is its check exactly if the row weighs 0 by the modulus
+  weighs : (r : List ℕ) (n : ℕ) → length r ≡ suc n → final r < size → (dot (all-weights n) r % size ≡ 0) ↔ (final r ≡ checkOf rule (front r))
+  weighs r n l b =
+      let f : length (front r) ≡ n = length-take-le (length r - 1) r (omega arith) ∙ omega arith in
+      rw (f, whole r (omega arith)) at (one-passes (front r) (final r) b)
 
   pub caught : (r : List ℕ) (i v : ℕ) → i < length r → getD r i 0 < size → v < size → v ≢ getD r i 0
       → final r ≡ checkOf rule (front r) → final (set r i v) ≢ checkOf rule (front (set r i v))
   caught r i v h l k n e f =
+      let o : length r ≡ suc (length r - 1) = omega arith in
       let w : length (all-weights (length r - 1)) ≡ length r = length-append (rule .weights (length r - 1)) _ ∙ omega (arith, s .long (length r - 1)) in
       let d : getD r i 0 % size ≢ v % size = λ q. n (sym (sym (mod-eq-of-lt l) ∙ q ∙ mod-eq-of-lt k)) in
-      let g : dot (all-weights (length r - 1)) (set r i v) % size ≡ 0 = rw (length-set r i v) at (weighs (set r i v) (rw (length-set r i v) (omega arith)) f) in
-      catches size (all-weights (length r - 1)) r i v (s .above) (s .tells (length r - 1)) w h d (weighs r (omega arith) e) g
+      catches size (all-weights (length r - 1)) r i v (s .above) (s .tells (length r - 1)) w h d (weighs r (length r - 1) o (final-below r e) .1 e)
+      (weighs (set r i v) (length r - 1) (length-set r i v ∙ o) (final-below (set r i v) f) .1 f)
+
+  pub exchanged : (r : List ℕ) (n i : ℕ) → length r ≡ suc n → i < n → Below size r → final r ≡ checkOf rule (front r)
+      → (final (swapped r i) ≡ checkOf rule (front (swapped r i)))
+      ↔ (difference (getD (all-weights n) i 0) (getD (all-weights n) (suc i) 0) * difference (getD r i 0) (getD r (suc i) 0) % size ≡ 0)
+  exchanged r n i l h b e =
+      let k : length (swapped r i) ≡ suc n = length-swapped r i ∙ l in
+      let f : final (swapped r i) < size = below-at size (swapped r i) _ (below-swapped size r i (omega arith) b) (omega arith) in
+      Iff·trans (Iff·symm (weighs (swapped r i) n k f)) (swaps size (all-weights n) r i (s .above) (omega arith) (weighs r n l (final-below r e) .1 e))

@@ -5,6 +5,7 @@
 --   Drawable    every drawn character is one of the alphabet
 --   alone39, alone-digits, alone-codabar  the byte that draws a character alone
 --   plain39, plain-digits, codabar-all    by the alphabets, whose bytes and values undo one another
+--   back39, back-digits                   so characters are read back as their own bytes
 --   placed-in                             a character of Codabar, wherever it stands
 --   back                                  full ASCII the other way: the byte of an item
 --   full-own, full-none                   a byte that draws an item is found; none where `back` has none
@@ -14,16 +15,17 @@
 -- Assumes nothing.
 use mathlib.Core.Path.{_≡_, refl, sym, ap, _∙_}
 use mathlib.Core.Bool.{Bool, true, false, _&&_, not, and-false}
-use mathlib.Core.List.{List, [], _∷_}
-use Prim.Native.Nat.{ℕ, _+_, _-_, _<_, _≤_}
+use mathlib.Core.List.{List, [], _∷_, map}
+use Prim.Native.Nat.{ℕ, suc, _+_, _-_, _<_, _≤_}
 use native.Mathlib.Omega.{arith}
 use native.Mathlib.Decide.{decLt}
 use lib.Dec.{eqb, ltb, leb}
 use lib.ListN.{length}
-use borrow.Author.Tests.{eqb-true, ltb-true, lt-leb, not-true}
+use borrow.Author.Tests.{eqb-true, ltb-true, lt-ltb, lt-leb, not-true}
 use Rattle.laws.specs.Search.{pick, first, indexIn}
 use Rattle.laws.specs.Elements.{alike}
-use Rattle.laws.specs.Spelling.{Coder, counted, byteFor}
+use Rattle.laws.specs.Units.{Reading, found, push}
+use Rattle.laws.specs.Spelling.{Coder, counted, byteFor, gave, unspell}
 use Rattle.laws.proofs.Finite.{both-left, both-right, upto, upto-at, every, every-at}
 use Rattle.laws.proofs.Spelling.{Drawn, none, alone, pair, Valid, for-own, for-none, Below, below-test, below}
 use Rattle.tables.specs.Alphabet.{Alphabet, size, valueOf, byteOf}
@@ -126,6 +128,28 @@ plain39 = plain-all alphabet39 proper39 refl
 pub plain-digits : Valid (plain alphabetDigits) × Single (plain alphabetDigits) × Drawable alphabetDigits (plain alphabetDigits)
 unfolding alphabetDigits table44
 plain-digits = plain-all alphabetDigits proper-digits refl
+
+-- nothing but its own byte draws a character
+module _ (a : Alphabet) (p : Proper a) (t : every 0 (λ v b. ltb b 256) 0 (a .chars) ≡ true) where
+  no-shift : (c : ℕ) → plain a .shift c ≡ false
+  unfolding plain
+  no-shift c = refl
+
+  gave-own : (end : Bool) (at c : ℕ) (z : Reading) → c < size a → gave at (byteFor (plain a) end (c ∷ [])) z ≡ push (byteOf a c) z
+  gave-own end at c z h = rw (plain-alone a p t end c, lt-ltb c (size a) h, lt-ltb (byteOf a c) 256 (byte-small a t c h))
+
+  unspell-own : (cs : List ℕ) (start : Bool) (at : ℕ) → Below (size a) cs → unspell (plain a) start at cs ≡ found (map (byteOf a) cs)
+  unspell-own [] start at b = refl
+  unspell-own (c ∷ []) start at b = gave-own true at c (found []) (b .0)
+  unspell-own (c ∷ d ∷ cs) start at b = rw (no-shift c, gave-own start at c (unspell (plain a) false (suc at) (d ∷ cs)) (b .0), unspell-own (d ∷ cs) false (suc at) (b .1))
+
+pub back39 : (cs : List ℕ) → Below 43 cs → unspell (plain alphabet39) true 0 cs ≡ found (map (byteOf alphabet39) cs)
+unfolding alphabet39 chars39
+back39 cs = unspell-own alphabet39 proper39 refl cs true 0
+
+pub back-digits : (cs : List ℕ) → Below 10 cs → unspell (plain alphabetDigits) true 0 cs ≡ found (map (byteOf alphabetDigits) cs)
+unfolding alphabetDigits table44
+back-digits cs = unspell-own alphabetDigits proper-digits refl cs true 0
 
 pub placed-in : (end : Bool) (v : ℕ) → placed end v ≡ true → v < 20
 placed-in true v e = ltb-true v 20 (both-right (leb 16 v) (ltb v 20) e)

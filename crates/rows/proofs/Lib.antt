@@ -7,6 +7,8 @@ pub mod Numbers
 pub mod Undo
 pub mod Within
 pub mod Catches
+pub mod Plain
+pub mod Exchanges
 pub mod Loops
 pub mod Sums
 pub mod Fields
