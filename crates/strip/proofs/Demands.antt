@@ -14,35 +14,40 @@
 --               draw-six, draw-thirteen, field-five, field-six, read-eleven, read-twelve; draw-leaves, field-leaves, read-leaves
 --   demand 2    draw-draws, draw-drew, field-drew; read-hands-back, read-turns-away, read-wants-room; read-undoes-draw
 --   demand 3    same-strip; element-refused; character-refused
+--   ticket 2    digits-swapped; code39-swapped, check-swapped; swapped-back, swapped-refused; full-swapped, full-check-swapped
 --
 -- Assumes nothing.
 use mathlib.Core.Path.{_≡_, refl, ap, _∙_}
-use mathlib.Core.Logic.{_≢_}
+use mathlib.Core.Logic.{_≢_, _↔_, _⊎_}
 use mathlib.Core.List.{List, _++_}
-use Prim.Native.Nat.{ℕ, _<_, _≤_}
+use Prim.Native.Nat.{ℕ, suc, _-_, _<_, _≤_}
+use native.Mathlib.Omega.{arith}
 use lib.ListN.{length, getD, take, drop, set}
 use lib.Seq.{take-length}
 use borrow.Fn.Kinds.{Dens, resT, endedOf, Out}
 use contract.Lifetimes.{Lfts}
 use denote.Triple.Clauses.{AtExit}
 use Rattle.laws.specs.Elements.{sum}
+use Rattle.laws.specs.Neighbours.{swapped, difference}
 use Rattle.laws.specs.One.{One, OneBuffer}
 use Rattle.words.specs.declared.Answer.{Answer}
-use Rattle.words.specs.declared.Answer.the-variants.{Drawn, HandedBack}
+use Rattle.words.specs.declared.Answer.the-variants.{Drawn, HandedBack, BadCheck}
 use Rattle.words.specs.Said.{saidOf}
 use Rattle.tables.specs.Alphabet.{size}
 use Rattle.rows.specs.Symbologies.{symbologyOf}
-use Rattle.rows.specs.Rows.{gives, rowOf}
+use Rattle.rows.specs.Rows.{gives, charPlace, rowOf}
 use Rattle.rows.specs.Held.{byteCount}
 use Rattle.units.specs.Plans.{stripOf}
 use Rattle.units.specs.Totals.{elementsOf, modulesOf}
 use Rattle.units.specs.Laid.{elementCount, moduleCount}
+use Rattle.strip.specs.Bench.{charsOf}
 use Rattle.strip.specs.Drawing.{Call, drawField, drawData}
 use Rattle.strip.specs.Reading.{dataSeen, readStrip}
 use Rattle.strip.specs.Order.{firstOf, drawingChecks, drawnAnswer, readingChecks, handedAnswer}
 use Rattle.strip.proofs.Order.{draw-first, read-first}
 use Rattle.strip.proofs.Alone.{five-alone, six-alone, no-thirteen, eleven-alone, twelve-alone}
 use Rattle.strip.proofs.Requests.{Draws, draw-whole, drawn-is, draw-keeps, data-keeps, same-bytes, read-whole, turned-always, one-element, one-character, read-keeps}
+use Rattle.strip.proofs.Exchanges.{Exchanged, one, other, digits-valid, before-valid, last-valid, handed-back, turned-back, full-no-7}
 use Rattle.strip.proofs.Only as Only
 use Rattle.strip.proofs.Honest.{seen-honest}
 use Rattle.strip.proofs.draw.Reads as Draw
@@ -251,6 +256,46 @@ module _ (c : Allowed ReadStrip.Learnt) where
   pub character-refused : (d t : List ℕ) (v : Draws (symbology c) (mode c) d t) (i x : ℕ) → mode c ≢ 0 → i < length (v .row)
       → x < size (symbologyOf (symbology c) .alphabet) → x ≢ getD (v .row) i 0 → given c ≡ stripOf (symbology c) (set (v .row) i x) → number (c .answer) ≢ 0
   character-refused d t v i x n l k q e = read-turns-away (λ f y. one-character (symbology c) (mode c) d f t v i x n l k q (rw (← e) y))
+
+-- ---- ticket 2 of document 02: two neighbours exchanged
+
+-- a call of `read`, lent room enough, with the strip that an accepted row has when two neighbouring drawn characters of it, `one x` and `other x`,
+-- are exchanged and it is laid out anew (Exchanges.antt); the last character of `x .row` is the check
+module _ (c : Allowed ReadStrip.Learnt) (d : List ℕ) (x : Exchanged (symbology c) (mode c) d (given c)) (n : mode c ≢ 0) (l : length d ≤ length (room c)) where
+  -- "For symbologies 4 to 9, modes 1 and 2: swapping two neighbouring drawn characters, the check included, of an accepted row is read as valid
+  -- exactly if they are equal or differ by 5."
+  pub digits-swapped : 4 ≤ symbology c → symbology c ≤ 9 → (number (c .answer) ≡ 0) ↔ ((one x ≡ other x) ⊎ (difference (one x) (other x) ≡ 5))
+  digits-swapped lo hi = rw (c .allows .0) (digits-valid (symbology c) (mode c) d (given c) (room c) x n l lo hi)
+
+  -- "For Code 39, symbology 1, in modes 1 and 2: swapping two neighbours before the check is always read as valid,
+  pub code39-swapped : symbology c ≡ 1 → suc (suc (x .place)) < length (x .row) → number (c .answer) ≡ 0
+  code39-swapped e k = rw (c .allows .0) (before-valid (symbology c) (mode c) d (given c) (room c) x n l e k)
+
+  -- and swapping the last of them with the check only if they are equal."
+  pub check-swapped : symbology c ≡ 1 → suc (suc (x .place)) ≡ length (x .row) → (number (c .answer) ≡ 0) ↔ (one x ≡ other x)
+  check-swapped e k = rw (c .allows .0) (last-valid (symbology c) (mode c) d (given c) (room c) x n l (omega arith) (omega arith) k)
+
+  -- what is read as valid hands back the data of the exchanged row: its characters as bytes, as many as the request had
+  pub swapped-back : (symbology c ≡ 1) ⊎ ((4 ≤ symbology c) × (symbology c ≤ 9)) → number (c .answer) ≡ 0
+      → (c .answer ≡ HandedBack (byteCount (length d)) (moduleCount (sum (given c))))
+      × (after c ≡ charsOf (symbology c) (take (length d) (swapped (x .row) (x .place))) ++ drop (length d) (room c))
+  swapped-back s e =
+      let z = handed-back (symbology c) (mode c) d (given c) (room c) x n l s (rw (c .allows .0) at e) in
+      (c .allows .0 ∙ ap (λ (z : Call). z .answer) z, c .allows .1 ∙ ap (λ (z : Call). z .buffer) z)
+
+  -- and what is not is refused with 7, at the check
+  pub swapped-refused : (symbology c ≡ 1) ⊎ ((4 ≤ symbology c) × (symbology c ≤ 9)) → number (c .answer) ≢ 0 → c .answer ≡ BadCheck (charPlace (length (x .row) - 1))
+  swapped-refused s f =
+      c .allows .0 ∙ ap (λ (z : Call). z .answer) (turned-back (symbology c) (mode c) d (given c) (room c) x n l s (rw (c .allows .0) at f))
+
+  -- full ASCII, symbology 2, of which the ticket does not speak, has the same check: two neighbours before it exchanged are never refused with 7
+  -- (they may be with 12, where a pair breaks up),
+  pub full-swapped : symbology c ≡ 2 → suc (suc (x .place)) < length (x .row) → number (c .answer) ≢ 7
+  full-swapped e k = rw (c .allows .0) (full-no-7 (symbology c) (mode c) d (given c) (room c) x n l e k)
+
+  -- and the last of them and the check exchanged are read exactly if they are equal
+  pub full-check-swapped : symbology c ≡ 2 → suc (suc (x .place)) ≡ length (x .row) → (number (c .answer) ≡ 0) ↔ (one x ≡ other x)
+  full-check-swapped e k = rw (c .allows .0) (last-valid (symbology c) (mode c) d (given c) (room c) x n l (omega arith) (omega arith) k)
 
 -- ---- two calls
 

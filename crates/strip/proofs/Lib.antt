@@ -5,6 +5,7 @@ pub mod Hands
 pub mod Only
 pub mod Honest
 pub mod Requests
+pub mod Exchanges
 pub mod Order
 pub mod Alone
 pub mod Demands

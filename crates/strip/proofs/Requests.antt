@@ -4,23 +4,23 @@
 --   Draws          an accepted request draws a strip
 --   draw-whole, drawn-is                                     demand 2, drawing
 --   read-exactly, read-whole, turned-always                  demand 2, reading (`read-exactly` for the reader: both directions in one)
---   same-bytes, one-element, one-character                   demand 3
+--   same-bytes, one-element, one-character                   demand 3; relaid-seen, drawn-below    of rows that are laid out anew
 --   draw-keeps, data-keeps, read-keeps                       demand 1
 --
 -- Assumes nothing.
 use mathlib.Core.Path.{_≡_, refl, sym, ap, _∙_}
 use mathlib.Core.Logic.{_≢_, _↔_}
 use mathlib.Core.Bool.{Bool, true, false}
-use mathlib.Core.List.{List, [], _∷_, _++_}
-use Prim.Native.Nat.{ℕ, zero, suc, _<_, _≤_}
+use mathlib.Core.List.{List, _++_}
+use Prim.Native.Nat.{ℕ, _<_, _≤_}
 use native.Mathlib.Omega.{arith}
-use lib.Dec.{eqb, ltb}
+use lib.Dec.{ltb}
 use lib.ListN.{length, getD, take, drop, set, length-set}
 use lib.Seq.{take-at}
 use borrow.Author.Tests.{le-ltb}
 use Rattle.laws.specs.Search.{pick}
 use Rattle.laws.specs.Elements.{sum}
-use Rattle.laws.proofs.Spelling.{Below}
+use Rattle.laws.proofs.Spelling.{Below, below-set}
 use Rattle.laws.specs.Units.{Fits}
 use Rattle.laws.proofs.Elements.{dist-set}
 use Rattle.laws.proofs.Strips.{strip-far}
@@ -32,11 +32,12 @@ use Rattle.rows.specs.Symbologies.{symbologyOf}
 use Rattle.rows.specs.Rows.{Outcome, gives, turned, drawable, rowOfField, rowOf, readRow, dataOfCount, dataOf}
 use Rattle.rows.specs.Held.{byteCount}
 use Rattle.rows.proofs.Undo.{undrawn, Reads, reads, undo}
+use Rattle.rows.proofs.Within.{all-in}
 use Rattle.rows.proofs.Catches.{replaced}
 use Rattle.units.specs.Plans.{planOf, unitsOf, stripOf}
 use Rattle.units.specs.Totals.{elementsOf}
 use Rattle.units.specs.Laid.{counted, ready, elementCount, moduleCount}
-use Rattle.units.proofs.Ready.{ready-counted, below-allowed, ready-below, no-codabar, drawn-ready, ready-fits, all-good}
+use Rattle.units.proofs.Ready.{ready-counted, below-allowed, no-codabar, drawn-ready, ready-fits, all-good}
 use Rattle.units.proofs.Totals.{elements}
 use Rattle.reads.specs.Seen.{rowSeen}
 use Rattle.reads.specs.Held.{countFor}
@@ -165,34 +166,32 @@ one-element s m d e t i w v l n x =
 
 -- "Where there is a check character, any one drawn character replaced by another of its set: refused."
 
-below-set : (n : ℕ) (r : List ℕ) (i v : ℕ) → Below n r → v < n → Below n (set r i v)
-below-set n [] i v b h = tt
-below-set n (c ∷ cs) zero v b h = (h, b .1)
-below-set n (c ∷ cs) (suc i) v b h = (b .0, below-set n cs i v (b .1) h)
+-- a row of as many characters of the set, laid out anew, is seen
+module _ (s m : ℕ) (d r q : List ℕ) (n : m ≢ 0) (e : rowOf s m d ≡ gives r) (l : length q ≡ length r) (b : Below (size (symbologyOf s .alphabet)) q) where
+  row-read : Reads s m d r
+  row-read = reads s m d r (undo s m d r .0 e)
 
-replaced-ready : (s m : ℕ) (d r : List ℕ) (i v : ℕ) → m ≢ 0 → rowOf s m d ≡ gives r → v < size (symbologyOf s .alphabet) → ready s (set r i v) ≡ true
-unfolding ready
-replaced-ready s m d r i v n e k =
-    let a : Reads s m d r = reads s m d r (undo s m d r .0 e) in
-    let o : eqb s 3 ≡ false = no-codabar s m (a .offers) n in
-    let h : ready s r ≡ true = drawn-ready s m d r e in
-    let c : counted s (length (set r i v)) ≡ true = rw (length-set r i v) (ready-counted s r h) in
-    let b : Below (size (symbologyOf s .alphabet)) (set r i v) = below-set (size (symbologyOf s .alphabet)) r i v (ready-below s r o h) k in
-    rw (c, below-allowed s o true (set r i v) b)
+  relaid-ready : ready s q ≡ true
+  unfolding ready
+  relaid-ready =
+      let c : counted s (length q) ≡ true = rw l (ready-counted s r (drawn-ready s m d r e)) in
+      rw (c, below-allowed s (no-codabar s m (row-read .offers) n) true q b)
 
-replaced-seen : (s m : ℕ) (d r : List ℕ) (i v : ℕ) → m ≢ 0 → rowOf s m d ≡ gives r → v < size (symbologyOf s .alphabet)
-    → rowSeen s m (stripOf s (set r i v)) ≡ gives (set r i v)
-replaced-seen s m d r i v n e k =
-    let a : Reads s m d r = reads s m d r (undo s m d r .0 e) in
-    let p : drawable (symbologyOf s) m (length (set r i v)) ≡ true = rw (length-set r i v, a .count, a .paired) in
-    ready-seen s m (set r i v) (a .known) (a .offers) p (replaced-ready s m d r i v n e k)
+  pub relaid-seen : rowSeen s m (stripOf s q) ≡ gives q
+  relaid-seen =
+      let p : drawable (symbologyOf s) m (length q) ≡ true = rw (l, row-read .count, row-read .paired) in
+      ready-seen s m q (row-read .known) (row-read .offers) p relaid-ready
+
+pub drawn-below : (s m : ℕ) (d r : List ℕ) → rowOf s m d ≡ gives r → Below (size (symbologyOf s .alphabet)) r
+drawn-below s m d r e = all-in s m d r (reads s m d r (undo s m d r .0 e))
 
 pub one-character : (s m : ℕ) (d e t : List ℕ) (w : Draws s m d t) (i v : ℕ) → m ≢ 0 → i < length (w .row) → v < size (symbologyOf s .alphabet) → v ≢ getD (w .row) i 0
     → Draws s m e (stripOf s (set (w .row) i v)) → ⊥
 one-character s m d e t w i v n h k q x =
     let r : List ℕ = w .row in
+    let b : Below (size (symbologyOf s .alphabet)) (set r i v) = below-set (size (symbologyOf s .alphabet)) r i v (drawn-below s m d r (w .accepted)) k in
     let f : rowSeen s m (stripOf s (set r i v)) ≡ gives (x .row) = rw (← x .drawing) (drawn-seen s m e (x .row) (x .accepted)) in
-    let g : gives (set r i v) ≡ gives (x .row) = sym (replaced-seen s m d r i v n (w .accepted) k) ∙ f in
+    let g : gives (set r i v) ≡ gives (x .row) = sym (relaid-seen s m d r (set r i v) n (w .accepted) (length-set r i v) b) ∙ f in
     let same : x .row ≡ set r i v = cc in
     replaced s m d e r i v n (undo s m d r .0 (w .accepted)) h k q (rw (← same) (undo s m e (x .row) .0 (x .accepted)))
 
