@@ -758,6 +758,86 @@ fn replaced_character() {
     tally.done(100_000);
 }
 
+/// Ticket 2 of document 02: whether the check passes with the neighbours x and y exchanged, y being the check or not.
+fn passes_exchanged(symbology: u8, x: u8, y: u8, y_is_the_check: bool) -> bool {
+    match symbology {
+        4..=9 => x == y || x.abs_diff(y) == 5,
+        _ => !y_is_the_check || x == y,
+    }
+}
+
+/// Exchanges each two neighbours of a row that is drawn, and holds what is read to ticket 2's statement. Counts what
+/// was read and what was refused.
+fn exchange(tally: &mut Tally, symbology: u8, mode: u8, drawn: &[u8]) -> [u64; 2] {
+    let mut counts = [0; 2];
+    let check = drawn.len() - 1;
+    for place in 0..check {
+        let mut row = drawn.to_vec();
+        row.swap(place, place + 1);
+        let read = tally.data(symbology, mode, &second::lay_out(symbology, &row));
+        let passes = passes_exchanged(symbology, drawn[place], drawn[place + 1], place + 1 == check);
+        counts[usize::from(read.is_err())] += 1;
+        match (symbology, read) {
+            // Full ASCII: what the check lets pass may still be no expansion, and that comes first.
+            (2, Err((number, _))) => assert!(number == 12 || number == 7 && !passes, "{row:?}"),
+            (2, Ok(data)) => {
+                assert!(passes, "{row:?}");
+                assert_eq!(second::characters(2, mode, &data).as_deref(), Ok(&row[..]));
+            }
+            (_, read) if passes => {
+                let data = &row[..row.len() - usize::from(mode == 2)];
+                assert_eq!(read.as_deref(), Ok(data));
+                assert!(tally.strip(symbology, mode, data).is_ok());
+            }
+            (_, read) => {
+                assert_eq!(read, Err((7, check as u64)), "{row:?}");
+                if mode == 1 {
+                    assert_eq!(tally.strip(symbology, 1, &row), Err((7, check as u64)));
+                }
+            }
+        }
+    }
+    counts
+}
+
+/// Two neighbouring drawn characters exchanged, wherever there is a check: in all short rows, and at every count.
+#[test]
+fn exchanged_neighbours() {
+    let mut tally = Tally::new("exchanged_neighbours");
+    let mut random = Random::new("exchanged_neighbours");
+    for (symbology, mode) in OFFERED.into_iter().filter(|&(_, mode)| mode != 0) {
+        let mut counts = [0; 2];
+        let mut hold = |drawn: &[u8]| {
+            for (count, more) in counts.iter_mut().zip(exchange(&mut tally, symbology, mode, drawn)) {
+                *count += more;
+            }
+        };
+        let (least, most) = second::data_limits(symbology, mode).expect("offered");
+        let short = match symbology {
+            1 | 2 => 1..=2,
+            4..=6 => 1..=4,
+            _ => 1..=0,
+        };
+        for n in short {
+            every(allowed(symbology, 0, 1), n, |head| {
+                let row = [head, &[second::check(symbology, head)]].concat();
+                let whole = second::meant(symbology, mode, &row).is_ok();
+                if whole && second::can_give(symbology, mode, row.len()) {
+                    hold(&row);
+                }
+            });
+        }
+        for count in least..=most {
+            for _ in 0..if least == most { 2000 } else { 60 } {
+                let data = good_data(&mut random, symbology, mode, count);
+                hold(&second::characters(symbology, mode, &data).expect("good data"));
+            }
+        }
+        assert!(counts.iter().all(|&count| count > 1000), "{symbology} {mode} {counts:?}");
+    }
+    tally.done(970_000);
+}
+
 /// Long data and strips at random, good and bad.
 #[test]
 fn random_long() {
