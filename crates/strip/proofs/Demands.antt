@@ -260,7 +260,8 @@ module _ (c : Allowed ReadStrip.Learnt) where
 -- ---- ticket 2 of document 02: two neighbours exchanged
 
 -- a call of `read`, lent room enough, with the strip that an accepted row has when two neighbouring drawn characters of it, `one x` and `other x`,
--- are exchanged and it is laid out anew (Exchanges.antt); the last character of `x .row` is the check
+-- are exchanged and it is laid out anew (Exchanges.antt); the last character of `x .row` is the check. "Proved once over the modulus and the two
+-- weights": `exchanged`, in proofs/Neighbours.antt of the crate laws
 module _ (c : Allowed ReadStrip.Learnt) (d : List ℕ) (x : Exchanged (symbology c) (mode c) d (given c)) (n : mode c ≢ 0) (l : length d ≤ length (room c)) where
   -- "For symbologies 4 to 9, modes 1 and 2: swapping two neighbouring drawn characters, the check included, of an accepted row is read as valid
   -- exactly if they are equal or differ by 5."
