@@ -276,13 +276,15 @@ module _ (c : Allowed ReadStrip.Learnt) (d : List ℕ) (x : Exchanged (symbology
   pub check-swapped : symbology c ≡ 1 → suc (suc (x .place)) ≡ length (x .row) → (number (c .answer) ≡ 0) ↔ (one x ≡ other x)
   check-swapped e k = rw (c .allows .0) (last-valid (symbology c) (mode c) d (given c) (room c) x n l (omega arith) (omega arith) k)
 
-  -- what is read as valid hands back the data of the exchanged row: its characters as bytes, as many as the request had
+  -- what is read as valid hands back the data of the exchanged row: its characters as bytes, as many as the request had; and a request with just
+  -- these data draws it
   pub swapped-back : (symbology c ≡ 1) ⊎ ((4 ≤ symbology c) × (symbology c ≤ 9)) → number (c .answer) ≡ 0
       → (c .answer ≡ HandedBack (byteCount (length d)) (moduleCount (sum (given c))))
       × (after c ≡ charsOf (symbology c) (take (length d) (swapped (x .row) (x .place))) ++ drop (length d) (room c))
+      × Draws (symbology c) (mode c) (charsOf (symbology c) (take (length d) (swapped (x .row) (x .place)))) (given c)
   swapped-back s e =
       let z = handed-back (symbology c) (mode c) d (given c) (room c) x n l s (rw (c .allows .0) at e) in
-      (c .allows .0 ∙ ap (λ (z : Call). z .answer) z, c .allows .1 ∙ ap (λ (z : Call). z .buffer) z)
+      (c .allows .0 ∙ ap (λ (z : Call). z .answer) (z .0), c .allows .1 ∙ ap (λ (z : Call). z .buffer) (z .0), z .1)
 
   -- and what is not is refused with 7, at the check
   pub swapped-refused : (symbology c ≡ 1) ⊎ ((4 ≤ symbology c) × (symbology c ≤ 9)) → number (c .answer) ≢ 0 → c .answer ≡ BadCheck (charPlace (length (x .row) - 1))

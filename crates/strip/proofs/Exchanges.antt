@@ -37,7 +37,7 @@ use Rattle.units.specs.Laid.{moduleCount}
 use Rattle.strip.specs.Bench.{charsOf}
 use Rattle.strip.specs.Drawing.{Call, refused}
 use Rattle.strip.specs.Reading.{dataSeen, handed, readStrip}
-use Rattle.strip.proofs.Requests.{Draws, read-whole, relaid-seen, drawn-below}
+use Rattle.strip.proofs.Requests.{Draws, read-exactly, read-whole, relaid-seen, drawn-below}
 
 -- the strip t is laid out anew from an accepted request's row, of which the drawn characters at `place` and behind it are exchanged; the check is
 -- the last of the row
@@ -95,9 +95,12 @@ module _ (s m : ℕ) (d t out : List ℕ) (x : Exchanged s m d t) (n : m ≢ 0) 
   abbrev wrong : Call
   wrong = refused (BadCheck (charPlace (length (x .row) - 1))) out
 
+  data-seen : Plain s → dataSeen s m t ≡ pick passing (gives (charsOf s (take (length d) exchanged))) (wrongCheck exchanged)
+  data-seen plain = exchanged-seen ∙ exchanged-read s m d (x .row) n accepted-read (x .place) (x .behind) plain
+
   call : Plain s → readStrip s m t out ≡ pick passing done wrong
   unfolding readStrip
-  call plain = rw (exchanged-seen, exchanged-read s m d (x .row) n accepted-read (x .place) (x .behind) plain) (go passing)
+  call plain = rw (data-seen plain) (go passing)
     where
       go : (b : Bool) → handed t (pick b (gives (charsOf s (take (length d) exchanged))) (wrongCheck exchanged)) out ≡ pick b done wrong
       go true = rw (exchanged-long s m d (x .row) n accepted-read (x .place) (x .behind) plain, le-ltb (length out) (length d) l)
@@ -149,8 +152,11 @@ module _ (s m : ℕ) (d t out : List ℕ) (x : Exchanged s m d t) (n : m ≢ 0) 
   plain-of (inl e) = rw e code39-plain
   plain-of (inr h) = digits-plain s (h .0) (omega (arith, h .1))
 
-  pub handed-back : (s ≡ 1) ⊎ ((4 ≤ s) × (s ≤ 9)) → saidOf (readStrip s m t out .answer) .number ≡ 0 → readStrip s m t out ≡ done
-  handed-back a e = call (plain-of a) ∙ rw (valid (plain-of a) .0 e)
+  pub handed-back : (s ≡ 1) ⊎ ((4 ≤ s) × (s ≤ 9)) → saidOf (readStrip s m t out .answer) .number ≡ 0
+      → (readStrip s m t out ≡ done) × Draws s m (charsOf s (take (length d) exchanged)) t
+  handed-back a e =
+      let p : passing ≡ true = valid (plain-of a) .0 e in
+      (call (plain-of a) ∙ rw p, read-exactly s m (charsOf s (take (length d) exchanged)) t .0 (data-seen (plain-of a) ∙ rw p))
 
   not-passing : (b : Bool) → (b ≡ true → ⊥) → pick b done wrong ≡ wrong
   not-passing true f = absurd (f refl)
