@@ -1,7 +1,6 @@
 -- What a check catches, for every symbology with a check by one argument over the modulus and the weights.
 --
 --   Sound       a rule whose check is the one value that brings the weighted sum to a multiple of the modulus
---   next-ten    what brings a sum to the next multiple of ten is nine times it, by ten
 --   sound43, sound-right    the two rules are
 --   all-weights the weights of a whole row, the check's own last
 --   one-passes  exactly one character passes behind given ones: the check as document 01 words it
@@ -23,7 +22,7 @@ use Rattle.laws.specs.Neighbours.{swapped, difference}
 use Rattle.laws.proofs.Spelling.{Below, below-at}
 use Rattle.laws.proofs.Neighbours.{length-swapped, below-swapped, exchanged as swaps}
 use Rattle.laws.proofs.Weigh.{one-check, catches, inverses-append, inverses-turns, inverses-reverse, length-turns}
-use Rattle.rows.specs.Checks.{Rule, by43, right10, nextTen, front, final, checkOf}
+use Rattle.rows.specs.Checks.{Rule, by43, right10, front, final, checkOf}
 use Rattle.rows.proofs.Ends.{whole}
 
 pub record Sound (rule : Rule) (size : ℕ) : Type 0 where
@@ -49,9 +48,6 @@ sound43 = record {
   tells = λ n. inverses-append 43 (turns 1 1 n) (42 ∷ []) (inverses-turns 43 1 1 n (1, refl) (1, refl)) ((42, refl), tt);
 }
 
-pub next-ten : (sum : ℕ) → nextTen sum ≡ 9 * sum % 10
-next-ten sum = omega arith
-
 unfoldable pub sound-right : Sound right10 10
 unfolding right10
 sound-right = record {
@@ -60,7 +56,7 @@ sound-right = record {
   modulus = refl;
   above = lit< tt;
   brings = refl;
-  worded = next-ten;
+  worded = λ sum. omega arith;
   long = λ n. length-reverse (turns 3 1 n) ∙ length-turns 3 1 n;
   tells = λ n. inverses-append 10 (reverse (turns 3 1 n)) (1 ∷ []) (inverses-reverse 10 (turns 3 1 n) (inverses-turns 10 3 1 n (7, refl) (1, refl))) ((1, refl), tt);
 }

@@ -3,7 +3,8 @@
 --   digits-passes     symbologies 4 to 9: the exchanged row passes exactly if the two characters are equal or differ by 5
 --   before-passes     Code 39, full ASCII too: with two characters before the check exchanged it always passes
 --   last-passes       with the last of them and the check, exactly if they are equal
---   exchanged-read, exchanged-long    what the exchanged row hands back, or its refusal; as many bytes as before
+--   exchanged-below   the exchanged row has characters of the set
+--   exchanged-read, exchanged-long    what it hands back, or its refusal; as many bytes as before
 --
 -- All of it is the one law of `laws` with the weights of the row, the check's among them, and then arithmetic. Assumes nothing.
 use mathlib.Core.Path.{_≡_, refl, sym, _∙_}
@@ -131,7 +132,7 @@ module _ (s m : ℕ) (d r : List ℕ) (z : m ≢ 0) (p : dataOf s m r ≡ gives 
   ruled-check rule n e = (rw (e .1) at row-below, rw (e .0) at (check-is s m d r z row))
 
   module _ (i : ℕ) (h : suc i < length r) where
-    exchanged-below : Below (size (symbologyOf s .alphabet)) (swapped r i)
+    pub exchanged-below : Below (size (symbologyOf s .alphabet)) (swapped r i)
     exchanged-below = below-swapped (size (symbologyOf s .alphabet)) r i h row-below
 
     -- the exchanged row hands back its own bytes, as many as before, or is refused with 7

@@ -1,7 +1,7 @@
 -- Symbologies of which a character is a byte, Code 39 and the digits: what a row of theirs hands back.
 --
---   Plain, digits-plain, code39-plain    characters are read back as their own bytes
---   read-bytes                           a row with a check hands back its characters as bytes, or is refused with 7
+--   Plain, digits-are-plain, code39-is-plain    characters are read back as their own bytes
+--   read-bytes                       a row with a check hands back its characters as bytes, or is refused with 7
 --   same-long-read, same-long            so does any row as long as one that reads, and as many bytes
 --
 -- Assumes nothing.
@@ -34,42 +34,41 @@ use Rattle.rows.proofs.Within.{all-in}
 abbrev pub Plain : ℕ → Type 0
 Plain s = (cs : List ℕ) → Below (size (symbologyOf s .alphabet)) cs → unspell (symbologyOf s .coder) true 0 cs ≡ found (map (byteOf (symbologyOf s .alphabet)) cs)
 
-pub digits-plain : (s : ℕ) → 4 ≤ s → s < 10 → Plain s
+pub digits-are-plain : (s : ℕ) → 4 ≤ s → s < 10 → Plain s
 unfolding symbologyOf symbologies alphabetDigits table44
-digits-plain = from-at Plain 4 6 (back-digits, (back-digits, (back-digits, (back-digits, (back-digits, (back-digits, tt))))))
+digits-are-plain = from-at Plain 4 6 (back-digits, (back-digits, (back-digits, (back-digits, (back-digits, (back-digits, tt))))))
 
-pub code39-plain : Plain 1
+pub code39-is-plain : Plain 1
 unfolding symbologyOf symbologies alphabet39 chars39
-code39-plain = back39
+code39-is-plain = back39
 
-module _ (s : ℕ) (plain : Plain s) where
-  abbrev bytes : List ℕ → List ℕ
-  bytes cs = map (byteOf (symbologyOf s .alphabet)) cs
+abbrev bytes : ℕ → List ℕ → List ℕ
+bytes s cs = map (byteOf (symbologyOf s .alphabet)) cs
 
-  all-bytes : (r : List ℕ) → 0 < length r → bytes (front r) ++ bytes (final r ∷ []) ≡ bytes (take (length r - added 1) r)
-  all-bytes r h = sym (map-append (byteOf (symbologyOf s .alphabet)) (front r) (final r ∷ [])) ∙ rw (whole r h, take-all (length r - added 1) r (omega arith))
+all-bytes : (s : ℕ) (r : List ℕ) → 0 < length r → bytes s (front r) ++ bytes s (final r ∷ []) ≡ bytes s (take (length r - added 1) r)
+all-bytes s r h = sym (map-append (byteOf (symbologyOf s .alphabet)) (front r) (final r ∷ [])) ∙ rw (whole r h, take-all (length r - added 1) r (omega arith))
 
-  -- in mode 1 the check is handed back and in mode 2 it is not
-  read-bytes : (m : ℕ) (r : List ℕ) → m ≢ 0 → m < 3 → 0 < length r → Below (size (symbologyOf s .alphabet)) r
-      → readRow (symbologyOf s) m r ≡ pick (passes (symbologyOf s .rule) m r) (gives (bytes (take (length r - added m) r))) (wrongCheck r)
-  unfolding readRow
-  read-bytes zero r z l h b = absurd (z refl)
-  read-bytes (suc zero) r z l h b = rw (plain (front r) (below-split _ (length r - 1) r b .0), all-bytes r h)
-  read-bytes (suc (suc zero)) r z l h b = rw (plain (front r) (below-split _ (length r - 1) r b .0), append-nil)
-  read-bytes (suc (suc (suc m))) r z l h b = absurd (omega arith)
+-- in mode 1 the check is handed back and in mode 2 it is not
+read-bytes : (s : ℕ) → Plain s → (m : ℕ) (r : List ℕ) → m ≢ 0 → m < 3 → 0 < length r → Below (size (symbologyOf s .alphabet)) r
+    → readRow (symbologyOf s) m r ≡ pick (passes (symbologyOf s .rule) m r) (gives (bytes s (take (length r - added m) r))) (wrongCheck r)
+unfolding readRow
+read-bytes s plain zero r z l h b = absurd (z refl)
+read-bytes s plain (suc zero) r z l h b = rw (plain (front r) (below-split _ (length r - 1) r b .0), all-bytes s r h)
+read-bytes s plain (suc (suc zero)) r z l h b = rw (plain (front r) (below-split _ (length r - 1) r b .0), append-nil)
+read-bytes s plain (suc (suc (suc m))) r z l h b = absurd (omega arith)
 
 -- a row that reads, and another as long
 module _ (s m : ℕ) (d r : List ℕ) (z : m ≢ 0) (a : Reads s m d r) (plain : Plain s) where
   row-bytes : (q : List ℕ) → length q ≡ length r → Below (size (symbologyOf s .alphabet)) q
-      → readRow (symbologyOf s) m q ≡ pick (passes (symbologyOf s .rule) m q) (gives (bytes s plain (take (length q - added m) q))) (wrongCheck q)
+      → readRow (symbologyOf s) m q ≡ pick (passes (symbologyOf s .rule) m q) (gives (bytes s (take (length q - added m) q))) (wrongCheck q)
   row-bytes q l b = read-bytes s plain m q z (proper s .counts m (a .offers) .mode) (omega (arith, a .some)) b
 
   data-long : length d ≡ length r - added m
   data-long =
-      let c : pick (passes (symbologyOf s .rule) m r) (gives (bytes s plain (take (length r - added m) r))) (wrongCheck r) ≡ gives d
+      let c : pick (passes (symbologyOf s .rule) m r) (gives (bytes s (take (length r - added m) r))) (wrongCheck r) ≡ gives d
       = sym (row-bytes r refl (all-in s m d r a)) ∙ undrawn (symbologyOf s) m d r (a .row) in
-      let e : gives (bytes s plain (take (length r - added m) r)) ≡ gives d = rw (a .row .passing) at c in
-      let f : bytes s plain (take (length r - added m) r) ≡ d = cc in
+      let e : gives (bytes s (take (length r - added m) r)) ≡ gives d = rw (a .row .passing) at c in
+      let f : bytes s (take (length r - added m) r) ≡ d = cc in
       ap length (sym f) ∙ length-map (take (length r - added m) r) (byteOf (symbologyOf s .alphabet)) ∙ length-take-le (length r - added m) r (omega arith)
 
   module _ (q : List ℕ) (l : length q ≡ length r) where

@@ -3,7 +3,7 @@
 --   check-is         in modes 1 and 2 the last character is the check
 --   in-set, all-in   every character of a row that reads is of its set
 --   drawn-few        a row that is drawn has 1 to 34 characters
---   drawn-in         each of its set (for the reader: `ready` in units says it by place)
+--   drawn-below      each of its set
 --
 -- Assumes nothing.
 use mathlib.Core.Path.{_≡_}
@@ -64,5 +64,5 @@ module _ (s m : ℕ) (d r : List ℕ) (e : rowOf s m d ≡ gives r) where
       let g : length r - added m ≤ getD (symbologyOf s .limits .most) m 0 = held (symbologyOf s .limits) m (length r - added m) (read-back .count) .1 in
       (omega (arith, read-back .some), omega (arith, n .cap, read-back .some, g, room-small s))
 
-  pub drawn-in : (i : ℕ) → i < length r → getD r i 0 < size (symbologyOf s .alphabet)
-  drawn-in = in-set s m d r read-back
+  pub drawn-below : Below (size (symbologyOf s .alphabet)) r
+  drawn-below = all-in s m d r read-back

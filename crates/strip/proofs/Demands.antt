@@ -14,7 +14,7 @@
 --               draw-six, draw-thirteen, field-five, field-six, read-eleven, read-twelve; draw-leaves, field-leaves, read-leaves
 --   demand 2    draw-draws, draw-drew, field-drew; read-hands-back, read-turns-away, read-wants-room; read-undoes-draw
 --   demand 3    same-strip; element-refused; character-refused
---   ticket 2    digits-swapped; code39-swapped, check-swapped; swapped-back, swapped-refused; full-swapped, full-check-swapped
+--   ticket 2    digits-swapped; code39-swapped, check-swapped; swapped-handed-back, swapped-refused; full-swapped, full-check-swapped
 --
 -- Assumes nothing.
 use mathlib.Core.Path.{_≡_, refl, ap, _∙_}
@@ -47,7 +47,7 @@ use Rattle.strip.specs.Order.{firstOf, drawingChecks, drawnAnswer, readi
 use Rattle.strip.proofs.Order.{draw-first, read-first}
 use Rattle.strip.proofs.Alone.{five-alone, six-alone, no-thirteen, eleven-alone, twelve-alone}
 use Rattle.strip.proofs.Requests.{Draws, draw-whole, drawn-is, draw-keeps, data-keeps, same-bytes, read-whole, turned-always, one-element, one-character, read-keeps}
-use Rattle.strip.proofs.Exchanges.{Exchanged, one, other, digits-valid, before-valid, last-valid, handed-back, turned-back, full-no-7}
+use Rattle.strip.proofs.Exchanges.{Exchanged, one, other, digits-valid, before-valid, last-valid, handed-back, turned-back, full-before}
 use Rattle.strip.proofs.Only as Only
 use Rattle.strip.proofs.Honest.{seen-honest}
 use Rattle.strip.proofs.draw.Reads as Draw
@@ -276,13 +276,13 @@ module _ (c : Allowed ReadStrip.Learnt) (d : List ℕ) (x : Exchanged (symbology
   pub check-swapped : symbology c ≡ 1 → suc (suc (x .place)) ≡ length (x .row) → (number (c .answer) ≡ 0) ↔ (one x ≡ other x)
   check-swapped e k = rw (c .allows .0) (last-valid (symbology c) (mode c) d (given c) (room c) x n l (omega arith) (omega arith) k)
 
-  -- what is read as valid hands back the data of the exchanged row: its characters as bytes, as many as the request had; and a request with just
-  -- these data draws it
-  pub swapped-back : (symbology c ≡ 1) ⊎ ((4 ≤ symbology c) × (symbology c ≤ 9)) → number (c .answer) ≡ 0
+  -- what is read as valid hands back the data of the exchanged row: its characters as bytes (`charsOf`, specs/Bench.antt), as many as the request
+  -- had; and a request with just these data draws it
+  pub swapped-handed-back : (symbology c ≡ 1) ⊎ ((4 ≤ symbology c) × (symbology c ≤ 9)) → number (c .answer) ≡ 0
       → (c .answer ≡ HandedBack (byteCount (length d)) (moduleCount (sum (given c))))
       × (after c ≡ charsOf (symbology c) (take (length d) (swapped (x .row) (x .place))) ++ drop (length d) (room c))
       × Draws (symbology c) (mode c) (charsOf (symbology c) (take (length d) (swapped (x .row) (x .place)))) (given c)
-  swapped-back s e =
+  swapped-handed-back s e =
       let z = handed-back (symbology c) (mode c) d (given c) (room c) x n l s (rw (c .allows .0) at e) in
       (c .allows .0 ∙ ap (λ (z : Call). z .answer) (z .0), c .allows .1 ∙ ap (λ (z : Call). z .buffer) (z .0), z .1)
 
@@ -291,12 +291,13 @@ module _ (c : Allowed ReadStrip.Learnt) (d : List ℕ) (x : Exchanged (symbology
   swapped-refused s f =
       c .allows .0 ∙ ap (λ (z : Call). z .answer) (turned-back (symbology c) (mode c) d (given c) (room c) x n l s (rw (c .allows .0) at f))
 
-  -- full ASCII, symbology 2, of which the ticket does not speak, has the same check: two neighbours before it exchanged are never refused with 7
-  -- (they may be with 12, where a pair breaks up),
-  pub full-swapped : symbology c ≡ 2 → suc (suc (x .place)) < length (x .row) → number (c .answer) ≢ 7
-  full-swapped e k = rw (c .allows .0) (full-no-7 (symbology c) (mode c) d (given c) (room c) x n l e k)
+  -- full ASCII, symbology 2, of which the ticket does not speak, has the same check: two neighbours before it exchanged, read with room for as many
+  -- bytes as the row has characters, are read as valid or, where a pair breaks up, refused with 12,
+  pub full-swapped : symbology c ≡ 2 → suc (suc (x .place)) < length (x .row) → length (x .row) ≤ length (room c)
+      → (number (c .answer) ≡ 0) ⊎ (number (c .answer) ≡ 12)
+  full-swapped e k h = rw (c .allows .0) (full-before (symbology c) (mode c) d (given c) (room c) x n l e k h)
 
-  -- and the last of them and the check exchanged are read exactly if they are equal
+  -- and the last of them and the check are read as valid exactly if they are equal
   pub full-check-swapped : symbology c ≡ 2 → suc (suc (x .place)) ≡ length (x .row) → (number (c .answer) ≡ 0) ↔ (one x ≡ other x)
   full-check-swapped e k = rw (c .allows .0) (last-valid (symbology c) (mode c) d (given c) (room c) x n l (omega arith) (omega arith) k)
 

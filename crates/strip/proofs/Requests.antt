@@ -4,7 +4,7 @@
 --   Draws          an accepted request draws a strip
 --   draw-whole, drawn-is                                     demand 2, drawing
 --   read-exactly, read-whole, turned-always                  demand 2, reading (`read-exactly` for the reader: both directions in one)
---   same-bytes, one-element, one-character                   demand 3; relaid-seen, drawn-below    of rows that are laid out anew
+--   same-bytes, one-element, one-character                   demand 3; relaid-seen, of rows that are laid out anew
 --   draw-keeps, data-keeps, read-keeps                       demand 1
 --
 -- Assumes nothing.
@@ -32,7 +32,7 @@ use Rattle.rows.specs.Symbologies.{symbologyOf}
 use Rattle.rows.specs.Rows.{Outcome, gives, turned, drawable, rowOfField, rowOf, readRow, dataOfCount, dataOf}
 use Rattle.rows.specs.Held.{byteCount}
 use Rattle.rows.proofs.Undo.{undrawn, Reads, reads, undo}
-use Rattle.rows.proofs.Within.{all-in}
+use Rattle.rows.proofs.Within.{drawn-below}
 use Rattle.rows.proofs.Catches.{replaced}
 use Rattle.units.specs.Plans.{planOf, unitsOf, stripOf}
 use Rattle.units.specs.Totals.{elementsOf}
@@ -181,9 +181,6 @@ module _ (s m : ℕ) (d r q : List ℕ) (n : m ≢ 0) (e : rowOf s m d ≡ gives
   relaid-seen =
       let p : drawable (symbologyOf s) m (length q) ≡ true = rw (l, row-read .count, row-read .paired) in
       ready-seen s m q (row-read .known) (row-read .offers) p relaid-ready
-
-pub drawn-below : (s m : ℕ) (d r : List ℕ) → rowOf s m d ≡ gives r → Below (size (symbologyOf s .alphabet)) r
-drawn-below s m d r e = all-in s m d r (reads s m d r (undo s m d r .0 e))
 
 pub one-character : (s m : ℕ) (d e t : List ℕ) (w : Draws s m d t) (i v : ℕ) → m ≢ 0 → i < length (w .row) → v < size (symbologyOf s .alphabet) → v ≢ getD (w .row) i 0
     → Draws s m e (stripOf s (set (w .row) i v)) → ⊥
