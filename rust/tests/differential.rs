@@ -749,13 +749,16 @@ fn replaced_character() {
                         } else {
                             let (number, _) = read.expect_err("a replaced character is refused");
                             assert!(number == 7 || number == 12 && symbology == 2);
+                            if mode == 1 && symbology != 2 {
+                                assert_eq!(tally.strip(symbology, 1, &row), Err((7, row.len() as u64 - 1)));
+                            }
                         }
                     }
                 }
             }
         }
     }
-    tally.done(100_000);
+    tally.done(120_000);
 }
 
 /// Ticket 2 of document 02: whether the check passes with the neighbours x and y exchanged, y being the check or not.
@@ -766,53 +769,64 @@ fn passes_exchanged(symbology: u8, x: u8, y: u8, y_is_the_check: bool) -> bool {
     }
 }
 
-/// Exchanges each two neighbours of a row that is drawn, and holds what is read to ticket 2's statement. Counts what
-/// was read and what was refused.
-fn exchange(tally: &mut Tally, symbology: u8, mode: u8, drawn: &[u8]) -> [u64; 2] {
-    let mut counts = [0; 2];
+/// What became of exchanged neighbours: equal and read, unequal and read, refused with 7, refused with 12.
+type Fates = [u64; 4];
+
+/// Exchanges each two neighbours of a row that is drawn, and holds what is read, and what is drawn of it, to ticket 2.
+fn exchange(tally: &mut Tally, symbology: u8, mode: u8, drawn: &[u8], fates: &mut Fates) {
     let check = drawn.len() - 1;
     for place in 0..check {
+        let (x, y) = (drawn[place], drawn[place + 1]);
         let mut row = drawn.to_vec();
         row.swap(place, place + 1);
-        let read = tally.data(symbology, mode, &second::lay_out(symbology, &row));
-        let passes = passes_exchanged(symbology, drawn[place], drawn[place + 1], place + 1 == check);
-        counts[usize::from(read.is_err())] += 1;
-        match (symbology, read) {
-            // Full ASCII: what the check lets pass may still be no expansion, and that comes first.
-            (2, Err((number, _))) => assert!(number == 12 || number == 7 && !passes, "{row:?}"),
-            (2, Ok(data)) => {
+        let strip = second::lay_out(symbology, &row);
+        let read = tally.data(symbology, mode, &strip);
+        let passes = passes_exchanged(symbology, x, y, place + 1 == check);
+        // Outside full ASCII the data are the drawn characters, in mode 2 without the check.
+        let data = if mode == 1 { &row[..] } else { &row[..check] };
+        match read {
+            Ok(read) => {
                 assert!(passes, "{row:?}");
-                assert_eq!(second::characters(2, mode, &data).as_deref(), Ok(&row[..]));
+                assert!(symbology == 2 || read == data, "{row:?}");
+                assert_eq!(tally.strip(symbology, mode, &read), Ok(strip));
+                fates[usize::from(x != y)] += 1;
             }
-            (_, read) if passes => {
-                let data = &row[..row.len() - usize::from(mode == 2)];
-                assert_eq!(read.as_deref(), Ok(data));
-                assert!(tally.strip(symbology, mode, data).is_ok());
-            }
-            (_, read) => {
-                assert_eq!(read, Err((7, check as u64)), "{row:?}");
-                if mode == 1 {
-                    assert_eq!(tally.strip(symbology, 1, &row), Err((7, check as u64)));
+            Err((7, at)) => {
+                assert!(!passes && at == check as u64, "{row:?}");
+                if mode == 1 && symbology != 2 {
+                    assert_eq!(tally.strip(symbology, 1, data), Err((7, at)));
+                } else if symbology != 2 {
+                    // Typed without its check the number gets another one: nothing is caught.
+                    assert_ne!(tally.strip(symbology, 2, data).expect("drawn"), strip);
                 }
+                fates[2] += 1;
+            }
+            // Full ASCII: what the check lets pass may still be no expansion, and that comes before the check.
+            Err((number, at)) => {
+                assert!((symbology, number) == (2, 12) && x != y && at < check as u64, "{row:?}");
+                fates[3] += 1;
             }
         }
     }
-    counts
 }
 
-/// Two neighbouring drawn characters exchanged, wherever there is a check: in all short rows, and at every count.
+/// Full ASCII as it is typed, with its check: two bytes before it exchanged have the same sum, and are drawn.
+fn exchange_typed(tally: &mut Tally, data: &[u8]) {
+    for place in 0..data.len() - 2 {
+        let mut typed = data.to_vec();
+        typed.swap(place, place + 1);
+        assert!(tally.strip(2, 1, &typed).is_ok(), "{typed:?}");
+    }
+}
+
+/// Two neighbouring drawn characters exchanged, wherever there is a check: in all short rows of symbologies 1, 2 and
+/// 4 to 6, and at every count of each symbology.
 #[test]
 fn exchanged_neighbours() {
     let mut tally = Tally::new("exchanged_neighbours");
     let mut random = Random::new("exchanged_neighbours");
     for (symbology, mode) in OFFERED.into_iter().filter(|&(_, mode)| mode != 0) {
-        let mut counts = [0; 2];
-        let mut hold = |drawn: &[u8]| {
-            for (count, more) in counts.iter_mut().zip(exchange(&mut tally, symbology, mode, drawn)) {
-                *count += more;
-            }
-        };
-        let (least, most) = second::data_limits(symbology, mode).expect("offered");
+        let mut fates = Fates::default();
         let short = match symbology {
             1 | 2 => 1..=2,
             4..=6 => 1..=4,
@@ -823,19 +837,25 @@ fn exchanged_neighbours() {
                 let row = [head, &[second::check(symbology, head)]].concat();
                 let whole = second::meant(symbology, mode, &row).is_ok();
                 if whole && second::can_give(symbology, mode, row.len()) {
-                    hold(&row);
+                    exchange(&mut tally, symbology, mode, &row, &mut fates);
                 }
             });
         }
+        let (least, most) = second::data_limits(symbology, mode).expect("offered");
         for count in least..=most {
             for _ in 0..if least == most { 2000 } else { 60 } {
                 let data = good_data(&mut random, symbology, mode, count);
-                hold(&second::characters(symbology, mode, &data).expect("good data"));
+                let drawn = second::characters(symbology, mode, &data).expect("good data");
+                exchange(&mut tally, symbology, mode, &drawn, &mut fates);
+                if (symbology, mode) == (2, 1) {
+                    exchange_typed(&mut tally, &data);
+                }
             }
         }
-        assert!(counts.iter().all(|&count| count > 1000), "{symbology} {mode} {counts:?}");
+        let kinds = if symbology == 2 { 4 } else { 3 };
+        assert!(fates[..kinds].iter().all(|&count| count > 500), "{symbology} {mode} {fates:?}");
     }
-    tally.done(970_000);
+    tally.done(1_240_000);
 }
 
 /// Long data and strips at random, good and bad.
