@@ -37,18 +37,22 @@ dot-swapped ws xs i h =
 cross : (w v x y a b : ℕ) → w ≡ v + a → x ≡ y + b → w * x + v * y ≡ w * y + v * x + a * b
 cross w v x y a b e f = rw (e, f) (omega (arith, mul-add (v + a) y b, add-mul v a b, mul-add v y b))
 
--- straight and crossed the two products are apart by the product of the differences
-crossed : (w v x y : ℕ) → (w * x + v * y ≡ w * y + v * x + difference w v * difference x y) ⊎ (w * y + v * x ≡ w * x + v * y + difference w v * difference x y)
+-- one of two numbers is the other and n
+abbrev Apart : ℕ → ℕ → ℕ → Type 0
+Apart p q n = (p ≡ q + n) ⊎ (q ≡ p + n)
+
+-- straight and crossed, the two sums of products are apart by the product of the differences
+crossed : (w v x y : ℕ) → Apart (w * x + v * y) (w * y + v * x) (difference w v * difference x y)
 crossed w v x y = go (decLt w v) (decLt x y)
   where
-    go : Dec (w < v) → Dec (x < y) → (w * x + v * y ≡ w * y + v * x + difference w v * difference x y) ⊎ (w * y + v * x ≡ w * x + v * y + difference w v * difference x y)
+    go : Dec (w < v) → Dec (x < y) → Apart (w * x + v * y) (w * y + v * x) (difference w v * difference x y)
     go (no h) (no k) = inl (cross w v x y _ _ (omega arith) (omega arith))
     go (no h) (yes k) = inr (cross w v y x _ _ (omega arith) (omega arith))
     go (yes h) (no k) = inr (omega (arith, cross v w x y (difference w v) (difference x y) (omega arith) (omega arith)))
     go (yes h) (yes k) = inl (omega (arith, cross v w y x (difference w v) (difference x y) (omega arith) (omega arith)))
 
 -- of two sums that are apart by n, where the one is a multiple of the modulus, the other is exactly if n is
-apart-by : (d e p q n m : ℕ) → 0 < m → e + p ≡ d + q → (p ≡ q + n) ⊎ (q ≡ p + n) → d % m ≡ 0 → (e % m ≡ 0) ↔ (n % m ≡ 0)
+apart-by : (d e p q n m : ℕ) → 0 < m → e + p ≡ d + q → Apart p q n → d % m ≡ 0 → (e % m ≡ 0) ↔ (n % m ≡ 0)
 apart-by d e p q n m h s (inl c) z =
     let b : (d % m ≡ e % m) ↔ (n % m ≡ 0 % m) = balance d e n 0 m h (omega arith) in
     (λ f. b .0 (z ∙ sym f) ∙ zero-mod m, λ f. sym (b .1 (f ∙ sym (zero-mod m))) ∙ z)

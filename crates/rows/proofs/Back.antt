@@ -7,6 +7,7 @@
 --   not-known, not-offered, not-held, not-even, all-passed    1, 2, 9, or the count passes
 --   count-turned, count-read    the row of a count that does not pass, and of one that does
 --   Drawable, count-given, fits    a count that passes is drawable, in a mode that is offered, and 1 to 34
+--   kept-few                 data are at most as many bytes as their row has characters
 --   given-by, turned-by      the outcome that a verdict tells: at most 34 bytes, or an answer
 --   short, enough, copied    8, or the bytes in the lent buffer
 --
@@ -219,7 +220,7 @@ count-read s m row e =
 
 -- ---- how many
 
-kept-few : (y : Symbology) (m n : ℕ) (d r : List ℕ) → length r ≤ suc n → Undrew y m d r → length d ≤ suc n
+pub kept-few : (y : Symbology) (m n : ℕ) (d r : List ℕ) → length r ≤ suc n → Undrew y m d r → length d ≤ suc n
 kept-few y zero n d r l w = omega (arith, unspell-short _ r (w .body) (w .spells), length-append (w .body) [], ap length (w .is))
 kept-few y (suc m) n d r l w =
     let s : unspell (y .coder) true 0 (front r) ≡ found (w .body) = rw (ne-eqb (suc m) 0 (omega arith)) at (w .spells) in

@@ -116,10 +116,6 @@ code39-ruled : (s : ℕ) → 1 ≤ s → s < 3 → Ruled by43 43 s
 unfolding symbologyOf symbologies alphabet39 chars39
 code39-ruled = from-at (Ruled by43 43) 1 2 ((refl, refl), ((refl, refl), tt))
 
--- where there is a check, passing is having it
-passing : (rule : Rule) (m : ℕ) (r : List ℕ) → m ≢ 0 → (passes rule m r ≡ true) ↔ (final r ≡ checkOf rule (front r))
-passing rule m r n = rw (ne-eqb m 0 n) (eqb-true (final r) (checkOf rule (front r)), eq-eqb (final r) (checkOf rule (front r)))
-
 -- a row that reads, of a symbology with this rule
 module _ (s m : ℕ) (d r : List ℕ) (z : m ≢ 0) (p : dataOf s m r ≡ gives d) where
   row : Reads s m d r
@@ -127,9 +123,6 @@ module _ (s m : ℕ) (d r : List ℕ) (z : m ≢ 0) (p : dataOf s m r ≡ gives 
 
   row-below : Below (size (symbologyOf s .alphabet)) r
   row-below = all-in s m d r row
-
-  ruled-check : (rule : Rule) (n : ℕ) → Ruled rule n s → (Below n r) × (final r ≡ checkOf rule (front r))
-  ruled-check rule n e = (rw (e .1) at row-below, rw (e .0) at (check-is s m d r z row))
 
   module _ (i : ℕ) (h : suc i < length r) where
     pub exchanged-below : Below (size (symbologyOf s .alphabet)) (swapped r i)
@@ -147,23 +140,28 @@ module _ (s m : ℕ) (d r : List ℕ) (z : m ≢ 0) (p : dataOf s m r ≡ gives 
     abbrev Passes : Type 0
     Passes = passes (symbologyOf s .rule) m (swapped r i) ≡ true
 
+    -- with its rule named: the row has its check, and the exchanged row passes exactly if it has its own
+    module _ (rule : Rule) (n : ℕ) (y : Ruled rule n s) where
+      low : Below n r
+      low = rw (y .1) at row-below
+
+      has-check : final r ≡ checkOf rule (front r)
+      has-check = rw (y .0) at (check-is s m d r z row)
+
+      passing : Passes ↔ (final (swapped r i) ≡ checkOf rule (front (swapped r i)))
+      passing = rw (y .0, ne-eqb m 0 z) (eqb-true (final (swapped r i)) (checkOf rule (front (swapped r i))), eq-eqb (final (swapped r i)) (checkOf rule (front (swapped r i))))
+
     pub digits-passes : 4 ≤ s → s < 10 → Passes ↔ ((getD r i 0 ≡ getD r (suc i) 0) ⊎ (difference (getD r i 0) (getD r (suc i) 0) ≡ 5))
     digits-passes lo hi =
         let y : Ruled right10 10 s = digits-ruled s lo hi in
-        let c : (Below 10 r) × (final r ≡ checkOf right10 (front r)) = ruled-check right10 10 y in
-        Iff·trans (passing (symbologyOf s .rule) m (swapped r i) z)
-        (rw (y .0) (right-exchanged r (length r - 1) i (omega arith) (omega arith) (c .0) (c .1)))
+        Iff·trans (passing right10 10 y) (right-exchanged r (length r - 1) i (omega arith) (omega arith) (low right10 10 y) (has-check right10 10 y))
 
     pub before-passes : 1 ≤ s → s < 3 → suc (suc i) < length r → Passes
     before-passes lo hi k =
         let y : Ruled by43 43 s = code39-ruled s lo hi in
-        let c : (Below 43 r) × (final r ≡ checkOf by43 (front r)) = ruled-check by43 43 y in
-        passing (symbologyOf s .rule) m (swapped r i) z .1
-        (rw (y .0) (before-exchanged r (length r - 1) i (omega arith) (omega arith) (omega arith) (c .0) (c .1)))
+        passing by43 43 y .1 (before-exchanged r (length r - 1) i (omega arith) (omega arith) (omega arith) (low by43 43 y) (has-check by43 43 y))
 
     pub last-passes : 1 ≤ s → s < 3 → suc (suc i) ≡ length r → Passes ↔ (getD r i 0 ≡ getD r (suc i) 0)
     last-passes lo hi k =
         let y : Ruled by43 43 s = code39-ruled s lo hi in
-        let c : (Below 43 r) × (final r ≡ checkOf by43 (front r)) = ruled-check by43 43 y in
-        Iff·trans (passing (symbologyOf s .rule) m (swapped r i) z)
-        (rw (y .0) (last-exchanged r (length r - 1) i (omega arith) (omega arith) (omega arith) (c .0) (c .1)))
+        Iff·trans (passing by43 43 y) (last-exchanged r (length r - 1) i (omega arith) (omega arith) (omega arith) (low by43 43 y) (has-check by43 43 y))

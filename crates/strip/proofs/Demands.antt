@@ -47,7 +47,7 @@ use Rattle.strip.specs.Order.{firstOf, drawingChecks, drawnAnswer, readi
 use Rattle.strip.proofs.Order.{draw-first, read-first}
 use Rattle.strip.proofs.Alone.{five-alone, six-alone, no-thirteen, eleven-alone, twelve-alone}
 use Rattle.strip.proofs.Requests.{Draws, draw-whole, drawn-is, draw-keeps, data-keeps, same-bytes, read-whole, turned-always, one-element, one-character, read-keeps}
-use Rattle.strip.proofs.Exchanges.{Exchanged, one, other, digits-valid, before-valid, last-valid, handed-back, turned-back, full-before}
+use Rattle.strip.proofs.Exchanges.{Exchanged, one, other, Named, digits-valid, before-valid, last-valid, handed-back, turned-back, full-before}
 use Rattle.strip.proofs.Only as Only
 use Rattle.strip.proofs.Honest.{seen-honest}
 use Rattle.strip.proofs.draw.Reads as Draw
@@ -276,9 +276,9 @@ module _ (c : Allowed ReadStrip.Learnt) (d : List ℕ) (x : Exchanged (symbology
   pub check-swapped : symbology c ≡ 1 → suc (suc (x .place)) ≡ length (x .row) → (number (c .answer) ≡ 0) ↔ (one x ≡ other x)
   check-swapped e k = rw (c .allows .0) (last-valid (symbology c) (mode c) d (given c) (room c) x n l (omega arith) (omega arith) k)
 
-  -- what is read as valid hands back the data of the exchanged row: its characters as bytes (`charsOf`, specs/Bench.antt), as many as the request
+  -- in these symbologies, `Named`, what is read as valid hands back the data of the exchanged row: its characters as bytes (`charsOf`, specs/Bench.antt), as many as the request
   -- had; and a request with just these data draws it
-  pub swapped-handed-back : (symbology c ≡ 1) ⊎ ((4 ≤ symbology c) × (symbology c ≤ 9)) → number (c .answer) ≡ 0
+  pub swapped-handed-back : Named (symbology c) → number (c .answer) ≡ 0
       → (c .answer ≡ HandedBack (byteCount (length d)) (moduleCount (sum (given c))))
       × (after c ≡ charsOf (symbology c) (take (length d) (swapped (x .row) (x .place))) ++ drop (length d) (room c))
       × Draws (symbology c) (mode c) (charsOf (symbology c) (take (length d) (swapped (x .row) (x .place)))) (given c)
@@ -287,7 +287,7 @@ module _ (c : Allowed ReadStrip.Learnt) (d : List ℕ) (x : Exchanged (symbology
       (c .allows .0 ∙ ap (λ (z : Call). z .answer) (z .0), c .allows .1 ∙ ap (λ (z : Call). z .buffer) (z .0), z .1)
 
   -- and what is not is refused with 7, at the check
-  pub swapped-refused : (symbology c ≡ 1) ⊎ ((4 ≤ symbology c) × (symbology c ≤ 9)) → number (c .answer) ≢ 0 → c .answer ≡ BadCheck (charPlace (length (x .row) - 1))
+  pub swapped-refused : Named (symbology c) → number (c .answer) ≢ 0 → c .answer ≡ BadCheck (charPlace (length (x .row) - 1))
   swapped-refused s f =
       c .allows .0 ∙ ap (λ (z : Call). z .answer) (turned-back (symbology c) (mode c) d (given c) (room c) x n l s (rw (c .allows .0) at f))
 

@@ -1,6 +1,7 @@
 -- Ticket 2 of document 02, over the definition that `read` promises: two neighbouring drawn characters exchanged.
 --
 --   Exchanged     a strip of an accepted request's row, two neighbouring drawn characters of it exchanged; one, other, the two
+--   Named         the symbologies that the ticket names, 1 and 4 to 9
 --   digits-valid, before-valid, last-valid    the ticket's sentences: when such a strip is read
 --   handed-back, turned-back                  what is handed back where it is, and how it is refused where it is not
 --   full-before                               full ASCII, of which the ticket does not speak: before the check its check sees nothing either
@@ -9,28 +10,25 @@
 use mathlib.Core.Path.{_≡_, refl, sym, ap, _∙_}
 use mathlib.Core.Logic.{_≢_, _↔_, _⊎_, inl, inr, Iff·trans}
 use mathlib.Core.Bool.{Bool, true, false}
-use mathlib.Core.List.{List, [], _∷_, _++_}
+use mathlib.Core.List.{List, _++_}
 use Prim.Native.Nat.{ℕ, suc, _-_, _<_, _≤_}
 use native.Mathlib.Omega.{arith}
-use lib.Dec.{eqb}
-use lib.ListN.{length, getD, take, drop, length-append}
-use lib.Seq.{length-take-le}
-use borrow.Author.Tests.{ne-eqb, le-ltb}
+use lib.ListN.{length, getD, take, drop}
+use borrow.Author.Tests.{le-ltb}
 use Rattle.laws.specs.Search.{pick}
 use Rattle.laws.specs.Elements.{sum}
 use Rattle.laws.specs.Units.{Reading, found, stopped}
 use Rattle.laws.specs.Spelling.{unspell}
 use Rattle.laws.specs.Neighbours.{swapped, difference}
-use Rattle.laws.proofs.Spelling.{unspell-short}
 use Rattle.laws.proofs.Neighbours.{length-swapped, swapped-same}
 use Rattle.words.specs.declared.Answer.the-variants.{HandedBack, BadCheck}
 use Rattle.words.specs.Said.{saidOf}
-use Rattle.tables.specs.Alphabet.{byteOf}
-use Rattle.rows.specs.Checks.{front, final, passes}
+use Rattle.rows.specs.Checks.{passes}
 use Rattle.rows.specs.Symbologies.{symbologyOf}
 use Rattle.rows.specs.Rows.{gives, charPlace, wrongCheck, rowOf, headOf, kept, unspelled, readRow, dataOf}
 use Rattle.rows.specs.Held.{byteCount}
 use Rattle.rows.proofs.Undo.{undo}
+use Rattle.rows.proofs.Back.{kept-few}
 use Rattle.rows.proofs.Plain.{Plain, digits-are-plain, code39-is-plain}
 use Rattle.rows.proofs.Exchanges.{exchanged-below, exchanged-read, exchanged-long, digits-passes, before-passes, last-passes}
 use Rattle.units.specs.Plans.{stripOf}
@@ -56,6 +54,10 @@ module _ {s m : ℕ} {d t : List ℕ} (x : Exchanged s m d t) where
   abbrev pub other : ℕ
   other = getD (x .row) (suc (x .place)) 0
 
+-- the symbologies that the ticket names
+abbrev pub Named : ℕ → Type 0
+Named s = (s ≡ 1) ⊎ ((4 ≤ s) × (s ≤ 9))
+
 -- the answer is 0 with the one call, and not with the other
 zero-or : (b : Bool) (p q : Call) → saidOf (p .answer) .number ≡ 0 → saidOf (q .answer) .number ≢ 0 → (saidOf (pick b p q .answer) .number ≡ 0) ↔ (b ≡ true)
 zero-or true p q e n = (λ f. refl, λ f. e)
@@ -65,11 +67,6 @@ zero-or false p q e n = (λ f. absurd (n f), λ f. cc)
 read-passes : (b : Bool) (t out e q : List ℕ) → saidOf (handed t (pick b (gives e) (wrongCheck q)) out .answer) .number ≡ 0 → b ≡ true
 read-passes true t out e q f = refl
 read-passes false t out e q f = absurd (omega arith)
-
--- the check is one byte, or none
-kept-few : (b : Bool) (v : ℕ) → length (pick b (v ∷ []) []) ≤ 1
-kept-few true v = omega arith
-kept-few false v = omega arith
 
 module _ (s m : ℕ) (d t out : List ℕ) (x : Exchanged s m d t) (n : m ≢ 0) (l : length d ≤ length out) where
   abbrev row-swapped : List ℕ
@@ -127,21 +124,16 @@ module _ (s m : ℕ) (d t out : List ℕ) (x : Exchanged s m d t) (n : m ≢ 0) 
       go (stopped i) f = absurd (omega arith)
 
   -- and what has its check is read where it is an expansion: it has no more bytes than characters
-  bytes-fit : (b : List ℕ) → length (x .row) ≤ length out → unspell (symbologyOf s .coder) true 0 (headOf m row-swapped) ≡ found b
-      → length (b ++ kept (symbologyOf s) m row-swapped) ≤ length out
-  bytes-fit b k u =
-      let f : length b ≤ length (front row-swapped) = unspell-short (symbologyOf s .coder) (front row-swapped) b (rw (ne-eqb m 0 n) at u) in
-      let g : length (front row-swapped) ≡ length row-swapped - 1 = length-take-le (length row-swapped - 1) row-swapped (omega arith) in
-      omega (arith, length-append b (kept (symbologyOf s) m row-swapped), kept-few (eqb m 1) (byteOf (symbologyOf s .alphabet) (final row-swapped)), length-swapped (x .row) (x .place), x .behind)
-
-  zero-or-12 : passing ≡ true → length (x .row) ≤ length out
-      → (saidOf (readStrip s m t out .answer) .number ≡ 0) ⊎ (saidOf (readStrip s m t out .answer) .number ≡ 12)
+  zero-or-12 : passing ≡ true → length (x .row) ≤ length out → (saidOf (readStrip s m t out .answer) .number ≡ 0) ⊎ (saidOf (readStrip s m t out .answer) .number ≡ 12)
   unfolding readStrip readRow
   zero-or-12 p k = rw exchanged-seen (go (unspell (symbologyOf s .coder) true 0 (headOf m row-swapped)) refl)
     where
       go : (z : Reading) → unspell (symbologyOf s .coder) true 0 (headOf m row-swapped) ≡ z
           → (saidOf (handed t (unspelled (symbologyOf s) m row-swapped z) out .answer) .number ≡ 0) ⊎ (saidOf (handed t (unspelled (symbologyOf s) m row-swapped z) out .answer) .number ≡ 12)
-      go (found b) u = inl (rw (p, le-ltb (length out) (length (b ++ kept (symbologyOf s) m row-swapped)) (bytes-fit b k u)))
+      go (found b) u =
+          let f : length (b ++ kept (symbologyOf s) m row-swapped) ≤ suc (length row-swapped - 1)
+          = kept-few (symbologyOf s) m (length row-swapped - 1) _ row-swapped (omega arith) (record { body = b; spells = u; is = refl; passing = p }) in
+          inl (rw (p, le-ltb (length out) (length (b ++ kept (symbologyOf s) m row-swapped)) (omega (arith, length-swapped (x .row) (x .place), x .behind))))
       go (stopped i) u = inr refl
 
   -- and the row itself, with two equal characters exchanged, is what was accepted
@@ -159,11 +151,11 @@ module _ (s m : ℕ) (d t out : List ℕ) (x : Exchanged s m d t) (n : m ≢ 0) 
 
   -- ---- what it answers
 
-  plain-of : (s ≡ 1) ⊎ ((4 ≤ s) × (s ≤ 9)) → Plain s
+  plain-of : Named s → Plain s
   plain-of (inl e) = rw e code39-is-plain
   plain-of (inr h) = digits-are-plain s (h .0) (omega (arith, h .1))
 
-  pub handed-back : (s ≡ 1) ⊎ ((4 ≤ s) × (s ≤ 9)) → saidOf (readStrip s m t out .answer) .number ≡ 0
+  pub handed-back : Named s → saidOf (readStrip s m t out .answer) .number ≡ 0
       → (readStrip s m t out ≡ done) × Draws s m (charsOf s (take (length d) row-swapped)) t
   handed-back a e =
       let p : passing ≡ true = valid (plain-of a) .0 e in
@@ -173,5 +165,5 @@ module _ (s m : ℕ) (d t out : List ℕ) (x : Exchanged s m d t) (n : m ≢ 0) 
   not-passing true f = absurd (f refl)
   not-passing false f = refl
 
-  pub turned-back : (s ≡ 1) ⊎ ((4 ≤ s) × (s ≤ 9)) → saidOf (readStrip s m t out .answer) .number ≢ 0 → readStrip s m t out ≡ wrong
+  pub turned-back : Named s → saidOf (readStrip s m t out .answer) .number ≢ 0 → readStrip s m t out ≡ wrong
   turned-back a f = call (plain-of a) ∙ not-passing passing (λ e. f (valid (plain-of a) .1 e))
