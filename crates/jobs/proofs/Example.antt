@@ -9,13 +9,14 @@ use Rattle.laws.specs.Search.{indexIn}
 use Rattle.tables.specs.Printed.{text}
 use Rattle.tables.specs.Alphabet.{valueOf, byteOf, rowsOf}
 use Rattle.tables.specs.TwoOfFive.{alphabetDigits, table44, digitRows, interleavedRows, interleavedStart, interleavedStop}
-use Rattle.rows.specs.Coders.{plain}
-use Rattle.rows.specs.Checks.{checkOf, by43, right10}
-use Rattle.rows.specs.Symbologies.{symbologyOf, symbologies}
-use Rattle.rows.specs.Rows.{drawnRow, rowOf, rowOfField}
-use Rattle.units.specs.Plans.{interleaved, plans, planOf, unitsOf, stripOf}
-use Rattle.units.specs.Totals.{totals, elementsOf, modulesOf}
-use Rattle.strip.specs.Drawing.{drawField}
+use Rattle.laws.specs.Rules.{checkOf}
+use Rattle.symbologies.specs.Coders.{plain}
+use Rattle.symbologies.specs.Checks.{by43, right10}
+use Rattle.symbologies.specs.Parts.{interleaved}
+use Rattle.symbologies.specs.Symbologies.{symbologyOf, symbologies}
+use Rattle.symbologies.specs.Rows.{rowOf, rowOfField}
+use Rattle.symbologies.specs.Strips.{elementsOf, modulesOf, unitsOf, stripOf}
+use Rattle.strip.specs.Drawing.{drawingChecks, drawField}
 use Rattle.jobs.specs.Kinds.{fields, fieldOf, known, bodyOf}
 use Rattle.jobs.specs.Text.{decimal}
 use Rattle.jobs.specs.Line.{callOf, lineOf}
@@ -23,7 +24,7 @@ use Rattle.jobs.specs.Run.{counted, endLine, stopLine, runFrom, run}
 use Rattle.jobs.specs.Example.{example, printed}
 
 pub example-prints : run example ≡ printed
-unfolding example printed runFrom counted endLine stopLine lineOf callOf decimal bodyOf known fieldOf fields drawField rowOf rowOfField drawnRow symbologyOf symbologies valueOf byteOf rowsOf plain checkOf by43 right10 indexIn alphabetDigits table44 digitRows interleavedRows interleavedStart interleavedStop interleaved plans planOf unitsOf stripOf totals elementsOf modulesOf
+unfolding example printed runFrom counted endLine stopLine lineOf callOf decimal bodyOf known fieldOf fields drawField drawingChecks rowOf rowOfField symbologyOf symbologies valueOf byteOf rowsOf plain checkOf by43 right10 indexIn alphabetDigits table44 digitRows interleavedRows interleavedStart interleavedStop interleaved unitsOf stripOf elementsOf modulesOf
 example-prints = refl
 
 pub zero-prints : decimal 0 ≡ text "0"

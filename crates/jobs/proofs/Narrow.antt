@@ -2,7 +2,7 @@
 --
 --   all            a test that every entry of a list passes; `all-at`, `all-both`, `all-drop`
 --   narrow         no width of a row is above 4
---   narrow-strip, narrow-shape, narrow-plans    so it is for strips whose kinds' rows are narrow, and for those of every plan
+--   narrow-strip, narrow-parts, narrow-lines    so it is for strips whose kinds' rows are narrow, for parts of such, and for every symbology
 --   narrow-room    so it is for every record's room
 --
 -- Assumes nothing.
@@ -11,24 +11,28 @@ use mathlib.Core.Bool.{Bool, true, false, _&&_}
 use mathlib.Core.List.{List, [], _∷_, _++_}
 use Prim.Native.Nat.{ℕ, zero, suc, _≤_}
 use lib.Dec.{leb, ltb}
-use lib.ListN.{length, getD, drop, replicate}
+use lib.ListN.{length, getD, take, drop, replicate}
 use borrow.Author.Tests.{leb-true}
 use Rattle.laws.specs.Search.{pick}
 use Rattle.laws.specs.Units.{Kind, fixed, free, strip}
-use Rattle.laws.specs.Shapes.{Layout, shape}
+use Rattle.laws.specs.Shapes.{many}
 use Rattle.laws.proofs.Finite.{both-left, both-right, both-true}
-use Rattle.laws.proofs.Shapes.{holds-shape}
-use Rattle.words.specs.declared.Answer.the-variants.{ShortForStrip}
+use Rattle.laws.proofs.Shapes.{holds-many}
 use Rattle.tables.specs.Alphabet.{bitsOf, rowsOf}
 use Rattle.tables.specs.Code39.{table42, chars39, alphabet39, rows39, star39}
 use Rattle.tables.specs.Codabar.{table41, alphabetCodabar, innerRows, letterRows}
 use Rattle.tables.specs.TwoOfFive.{table44, alphabetDigits, digitRows, industrialRows, industrialStart, industrialStop, interleavedRows, interleavedStart, interleavedStop, matrixRows, matrixEnds}
 use Rattle.tables.specs.Ean.{table52, patterns, oddRows, evenRows, leftRows, rightRows, guard, centre}
-use Rattle.rows.specs.Rows.{Outcome, gives, turned, rowOfField}
-use Rattle.units.specs.Plans.{Plan, code39, codabar, industrial, interleaved, matrix, halves, nothing, plans, planOf, unitsOf, stripOf}
-use Rattle.units.specs.Totals.{elementsOf}
-use Rattle.units.specs.Laid.{elementCount}
-use Rattle.strip.specs.Drawing.{Call, refused, drawn, onto, drawField}
+use Rattle.words.specs.declared.Answer.{Answer}
+use Rattle.words.proofs.Order.{first-each}
+use Rattle.symbologies.specs.Sizes.{longest}
+use Rattle.symbologies.specs.Limits.{unknown}
+use Rattle.symbologies.specs.Checks.{noCheck}
+use Rattle.symbologies.specs.Parts.{Part, each, partUnits, starred, lettering, industrial, interleaved, matrix, halved}
+use Rattle.symbologies.specs.Symbologies.{Symbology, digits, symbologies, symbologyOf}
+use Rattle.symbologies.specs.Rows.{rowDrawn}
+use Rattle.symbologies.specs.Strips.{elementsOf, unitsOf, stripOf}
+use Rattle.strip.specs.Drawing.{Call, refused, drawn, drawingChecks, drawField}
 use Rattle.jobs.specs.Line.{callOf}
 
 module _ {A : Type 0} (f : A → Bool) where
@@ -59,8 +63,8 @@ abbrev narrowKind : Kind → Bool
 narrowKind (fixed r) = narrow r
 narrowKind (free k) = all narrow k
 
-abbrev narrowLayout : Layout → Bool
-narrowLayout l = all narrowKind (l .head) && (all narrowKind (l .group) && all narrowKind (l .tail))
+abbrev narrowPart : Part → Bool
+narrowPart p = all narrowKind (p .mark) && all narrowKind (p .unit)
 
 narrow-strip : (ks : List Kind) (cs : List ℕ) → all narrowKind ks ≡ true → narrow (strip ks cs) ≡ true
 narrow-strip [] cs e = refl
@@ -71,40 +75,40 @@ narrow-strip (free k ∷ ks) (c ∷ cs) e =
     all-both (λ w. leb w 4) (getD k c []) (strip ks cs) (all-at narrow k [] (both-left (all narrow k) (all narrowKind ks) e) refl c)
     (narrow-strip ks cs (both-right (all narrow k) (all narrowKind ks) e))
 
-narrow-shape : (l : Layout) (n : ℕ) → narrowLayout l ≡ true → all narrowKind (shape l n) ≡ true
-narrow-shape l n e =
-    let r = both-right (all narrowKind (l .head)) (all narrowKind (l .group) && all narrowKind (l .tail)) e in
-    holds-shape (λ ks. all narrowKind ks ≡ true) (all-both narrowKind) l n
-    (both-left (all narrowKind (l .head)) (all narrowKind (l .group) && all narrowKind (l .tail)) e)
-    (both-left (all narrowKind (l .group)) (all narrowKind (l .tail)) r) (both-right (all narrowKind (l .group)) (all narrowKind (l .tail)) r)
+narrow-parts : (n : ℕ) (ps : List Part) → all narrowPart ps ≡ true → all narrowKind (partUnits n ps) ≡ true
+narrow-parts n [] e = refl
+narrow-parts n (p ∷ ps) e =
+    let h : narrowPart p ≡ true = both-left (narrowPart p) (all narrowPart ps) e in
+    all-both narrowKind (p .mark) (many (p .count n) (p .unit) (partUnits n ps)) (both-left (all narrowKind (p .mark)) (all narrowKind (p .unit)) h)
+    (holds-many (λ ks. all narrowKind ks ≡ true) (all-both narrowKind) (p .count n) (p .unit) (partUnits n ps) (both-right (all narrowKind (p .mark)) (all narrowKind (p .unit)) h)
+    (narrow-parts n ps (both-right (narrowPart p) (all narrowPart ps) e)))
 
 -- every row of every table
-narrow-plans : all (λ (p : Plan). narrowLayout (p .layout)) plans ≡ true
-unfolding plans code39 codabar industrial interleaved matrix halves rows39 star39 innerRows letterRows digitRows industrialRows industrialStart industrialStop interleavedRows interleavedStart interleavedStop matrixRows matrixEnds oddRows evenRows leftRows rightRows guard centre patterns rowsOf bitsOf alphabet39 chars39 table42 alphabetCodabar table41 alphabetDigits table44 table52
-narrow-plans = refl
+narrow-lines : all (λ (y : Symbology). all narrowPart (y .parts)) symbologies ≡ true
+unfolding symbologies starred lettering industrial interleaved matrix halved rows39 star39 innerRows letterRows digitRows industrialRows industrialStart industrialStop interleavedRows interleavedStart interleavedStop matrixRows matrixEnds oddRows evenRows leftRows rightRows guard centre patterns rowsOf bitsOf alphabet39 chars39 table42 alphabetCodabar table41 alphabetDigits table44 table52
+narrow-lines = refl
 
 narrow-drawn : (s : ℕ) (r : List ℕ) → narrow (stripOf s r) ≡ true
-unfolding stripOf unitsOf planOf
+unfolding stripOf unitsOf symbologyOf
 narrow-drawn s r =
-    narrow-strip (unitsOf s (length r)) (planOf s .choices r)
-    (narrow-shape (planOf s .layout) (planOf s .repeats (length r)) (all-at (λ (p : Plan). narrowLayout (p .layout)) plans nothing narrow-plans refl s))
+    narrow-strip (unitsOf s (length r)) (symbologyOf s .shows .choices r)
+    (narrow-parts (length r) (symbologyOf s .parts) (all-at (λ (y : Symbology). all narrowPart (y .parts)) symbologies (digits unknown noCheck [] each) narrow-lines refl s))
 
 -- ---- rooms
 
 abbrev zeros : List ℕ
-zeros = replicate 339 0
+zeros = replicate longest 0
 
-narrow-by : (s : ℕ) (r : List ℕ) (b : Bool) (c : Call) → c .buffer ≡ zeros → narrow (pick b c (drawn s r zeros) .buffer) ≡ true
-narrow-by s r true c e = rw e refl
-narrow-by s r false c e =
-    all-both (λ w. leb w 4) (stripOf s r) (drop (elementsOf s (length r)) zeros) (narrow-drawn s r) (all-drop (λ w. leb w 4) (elementsOf s (length r)) zeros refl)
-
-narrow-onto : (s : ℕ) (z : Outcome) → narrow (onto s z zeros .buffer) ≡ true
-narrow-onto s (turned a) = refl
-narrow-onto s (gives r) = narrow-by s r (ltb 339 (elementsOf s (length r))) (refused (ShortForStrip (elementCount (elementsOf s (length r)))) zeros) refl
+narrow-call : (s m count : ℕ) (field : List ℕ) → narrow (drawField s m count field zeros .buffer) ≡ true
+unfolding drawField
+narrow-call s m count field =
+    first-each (λ (c : Call). narrow (c .buffer) ≡ true) (refused zeros) (drawingChecks s m count field zeros) (drawn s r zeros) (λ a. refl)
+    (all-both (λ w. leb w 4) (stripOf s r) (drop (elementsOf s (length r)) zeros) (narrow-drawn s r) (all-drop (λ w. leb w 4) (elementsOf s (length r)) zeros refl))
+  where
+    r : List ℕ
+    r = rowDrawn (symbologyOf s) m (take count field)
 
 pub narrow-room : (kind mode count : ℕ) (field : List ℕ) (i : ℕ) → getD (callOf kind mode count field .buffer) i 0 ≤ 4
-unfolding callOf drawField
+unfolding callOf
 narrow-room kind mode count field i =
-    leb-true (getD (callOf kind mode count field .buffer) i 0) 4
-    (all-at (λ w. leb w 4) (callOf kind mode count field .buffer) 0 (narrow-onto kind (rowOfField kind mode count field)) refl i)
+    leb-true (getD (callOf kind mode count field .buffer) i 0) 4 (all-at (λ w. leb w 4) (callOf kind mode count field .buffer) 0 (narrow-call kind mode count field) refl i)

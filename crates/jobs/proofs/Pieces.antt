@@ -23,6 +23,7 @@ use lib.ListN.{length, getD, take, drop, length-append, length-drop, List·getD-
 use lib.Seq.{drop-drop, drop-append-le, take-append-le}
 use borrow.Author.Tests.{leb-false, le-leb, le-ltb}
 use Rattle.laws.specs.Search.{pick}
+use Rattle.jobs.specs.Sizes.{longestLine}
 use Rattle.jobs.specs.declared.run.Ended.{Ended}
 use Rattle.jobs.specs.declared.run.Ended.the-variants.{More, Full, Stopped}
 use Rattle.jobs.specs.Kinds.{fieldOf, known, bodyOf}
@@ -111,7 +112,7 @@ module _ (room records drawn : ℕ) (bytes : List ℕ)
   halts-front nothing e = rw (held-step, e) (here records drawn bytes More (inl (empty-front bytes e)))
   halts-front unknown e = rw (held-step, e) (here records drawn bytes Stopped e)
   halts-front cut e = rw (held-step, e) (here records drawn bytes More (inr e))
-  halts-front (whole x rest) e = rw (held-step, e) (halts-room x rest (ltb room 445) e)
+  halts-front (whole x rest) e = rw (held-step, e) (halts-room x rest (ltb room longestLine) e)
 
 halts-by : (n room records drawn : ℕ) (bytes : List ℕ) → length bytes < n → Halts records drawn bytes (heldRun room records drawn bytes)
 halts-by zero m r d bytes h = absurd (omega arith)
@@ -172,15 +173,15 @@ left-over m r d bytes q =
     let h : Held = heldRun m r d bytes in
     more-why (h .records) (h .drawn) (drop (h .taken) bytes) (h .ended) q (halts m r d bytes .why)
 
-full-by : (room records drawn : ℕ) (bytes : List ℕ) (z : Front) → frontOf bytes ≡ z → 445 ≤ room → heldRun room records drawn bytes .ended ≡ Full
+full-by : (room records drawn : ℕ) (bytes : List ℕ) (z : Front) → frontOf bytes ≡ z → longestLine ≤ room → heldRun room records drawn bytes .ended ≡ Full
     → 0 < heldRun room records drawn bytes .taken
 full-by m r d bytes nothing e l q = let w = rw (held-step, e) at q in let z : _≡_ {A = ℕ} 0 1 = cc in absurd (omega arith)
 full-by m r d bytes unknown e l q = let w = rw (held-step, e) at q in let z : _≡_ {A = ℕ} 0 1 = cc in absurd (omega arith)
 full-by m r d bytes cut e l q = let w = rw (held-step, e) at q in let z : _≡_ {A = ℕ} 0 1 = cc in absurd (omega arith)
-full-by m r d bytes (whole x rest) e l q = rw (held-step, e, le-ltb m 445 l) (omega arith)
+full-by m r d bytes (whole x rest) e l q = rw (held-step, e, le-ltb m longestLine l) (omega arith)
 
 -- A call that has room for a line does not end full before it has taken a record: the loop gets on.
-pub full-takes : (room records drawn : ℕ) (bytes : List ℕ) → 445 ≤ room → heldRun room records drawn bytes .ended ≡ Full → 0 < heldRun room records drawn bytes .taken
+pub full-takes : (room records drawn : ℕ) (bytes : List ℕ) → longestLine ≤ room → heldRun room records drawn bytes .ended ≡ Full → 0 < heldRun room records drawn bytes .taken
 full-takes m r d bytes l q = full-by m r d bytes (frontOf bytes) refl l q
 
 -- ---- the loop
@@ -213,7 +214,7 @@ abbrev Next : List (List ℕ) → Type 0
 Next [] = Unit {0}
 Next (piece ∷ pieces) = (held : List ℕ) (records drawn : ℕ) → Printed held records drawn pieces
 
-module _ (room : ℕ) (l : 445 ≤ room) where
+module _ (room : ℕ) (l : longestLine ≤ room) where
   wants-more : (held : List ℕ) (records drawn : ℕ) (pieces : List (List ℕ)) → Next pieces → heldRun room records drawn held .ended ≡ More → Printed held records drawn pieces
   wants-more held r d [] k q = (_, over room (heldRun room r d held) l refl q)
   wants-more held r d (piece ∷ pieces) k q =

@@ -18,6 +18,7 @@ use lib.ListN.{length, getD, take, drop, length-drop, drop-of-length-le}
 use lib.Seq.{drop-cons, drop-drop, getD-drop}
 use borrow.Author.Tests.{leb-true, le-leb, lt-leb, lt-ltb, le-ltb}
 use Rattle.laws.specs.Search.{pick}
+use Rattle.jobs.specs.Sizes.{longestLine}
 use Rattle.jobs.specs.declared.run.Ended.{Ended}
 use Rattle.jobs.specs.declared.run.Ended.the-variants.{More, Full, Stopped}
 use Rattle.jobs.specs.declared.run.Run.{Run}
@@ -93,7 +94,7 @@ run-step r d (b ∷ bs) =
 
 -- one record more where there is room for its line
 abbrev pub heldOn : ℕ → ℕ → ℕ → Job → Held → Held
-heldOn room records drawn x h = pick (ltb room 445) (ends records drawn Full) (behind (suc (bodyOf (x .kind))) (lineFor (counted records) x) h)
+heldOn room records drawn x h = pick (ltb room longestLine) (ends records drawn Full) (behind (suc (bodyOf (x .kind))) (lineFor (counted records) x) h)
 
 held-enough : (j k room records drawn : ℕ) (bytes : List ℕ) → length bytes ≤ j → length bytes ≤ k → heldBy j room records drawn bytes ≡ heldBy k room records drawn bytes
 held-enough zero zero m r d bytes h l = refl
@@ -204,10 +205,10 @@ module _ {held : List ℕ} {records drawn : ℕ} {out₀ out : List ℕ} {taken 
   pub ended-cut : frontOf (drop taken held) ≡ cut → Ends More
   ended-cut e = ended More (sym rest ∙ rw e)
 
-  pub ended-full : (x : Job) (after : List ℕ) → frontOf (drop taken held) ≡ whole x after → length out - written < 445 → Ends Full
-  ended-full x after e h = ended Full (sym rest ∙ rw (e, lt-ltb (length out₀ - written) 445 (omega (arith, g .put .long))))
+  pub ended-full : (x : Job) (after : List ℕ) → frontOf (drop taken held) ≡ whole x after → length out - written < longestLine → Ends Full
+  ended-full x after e h = ended Full (sym rest ∙ rw (e, lt-ltb (length out₀ - written) longestLine (omega (arith, g .put .long))))
 
-  pub next : (x : Job) (out₁ : List ℕ) (taken₁ written₁ number₁ good₁ : ℕ) → frontOf (drop taken held) ≡ whole x (drop taken₁ held) → 445 ≤ length out - written
+  pub next : (x : Job) (out₁ : List ℕ) (taken₁ written₁ number₁ good₁ : ℕ) → frontOf (drop taken held) ≡ whole x (drop taken₁ held) → longestLine ≤ length out - written
       → taken₁ ≡ taken + suc (bodyOf (x .kind)) → taken₁ ≤ length held → number₁ ≡ counted number → Put out written (lineFor number₁ x) out₁ written₁
       → (b : Bool) → b ≡ isDrawn (x .kind) (x .mode) (x .count) (x .field) → good₁ ≡ countedIf b good
       → Going held records drawn out₀ out₁ taken₁ written₁ number₁ good₁
@@ -218,6 +219,6 @@ module _ {held : List ℕ} {records drawn : ℕ} {out₀ out : List ℕ} {taken 
     same =
         let d : good₁ ≡ drawnFor good x = c ∙ ap (λ (v : Bool). countedIf v good) q in
         let r : length out₀ - written - length (lineFor number₁ x) ≡ length out₀ - written₁ = omega (arith, p .behind) in
-        g .same ∙ ap (behind taken (g .text)) (sym rest ∙ rw (e, le-ltb (length out₀ - written) 445 (omega (arith, g .put .long)), ← n, r, ← d))
+        g .same ∙ ap (behind taken (g .text)) (sym rest ∙ rw (e, le-ltb (length out₀ - written) longestLine (omega (arith, g .put .long)), ← n, r, ← d))
         ∙ behind-behind taken (suc (bodyOf (x .kind))) (g .text) (lineFor number₁ x) (heldRun (length out₀ - written₁) number₁ good₁ (drop taken₁ held)) ∙ rw (← t);
   }

@@ -3,7 +3,7 @@
 --   said-text      five numbers, each with a blank behind it
 --   drawn-shown, refused-shown    the widths of a strip, or -, and the newline
 --   line-text      both are the line of a record
---   line-most      no line is longer than 445 bytes
+--   line-most      no line is longer than the longest
 --   room-holds     a drawing's room is what writing its widths wants
 --   record-put     the line of a record, from the calls that write it
 --   copied         a word at the buffer's front
@@ -26,6 +26,8 @@ use Rattle.words.specs.Said.{saidOf}
 use Rattle.words.specs.declared.Answer.{Answer}
 use Rattle.strip.specs.Drawing.{drawField}
 use Rattle.tables.specs.Printed.{text}
+use Rattle.symbologies.specs.Sizes.{longest}
+use Rattle.jobs.specs.Sizes.{longestLine}
 use Rattle.jobs.specs.Kinds.{symbologyOf}
 use Rattle.jobs.specs.Text.{decimal, widths, spaced, Put, front, roomy}
 use Rattle.jobs.specs.Line.{callOf, saidFor, isDrawn, shown, lineSaid, lineOf}
@@ -55,23 +57,23 @@ line-text : (number : ℕ) (said : Said) (room : List ℕ)
     → spaced (number ∷ said .number ∷ said .place ∷ said .count ∷ said .total ∷ []) ++ (shown said room ++ (10 ∷ [])) ≡ lineSaid number said room
 line-text number said room = simp append-assoc
 
-shown-by : (b : Bool) (n : ℕ) (room : List ℕ) → (b ≡ true → n ≤ 339) → length (pick b (widths (take n room)) (text "-")) ≤ 339
+shown-by : (b : Bool) (n : ℕ) (room : List ℕ) → (b ≡ true → n ≤ longest) → length (pick b (widths (take n room)) (text "-")) ≤ longest
 shown-by true n room h = rw (length-map, length-take) (omega (arith, h refl))
 shown-by false n room h = omega arith
 
--- No line is longer than 445 bytes: where so many are left, the next line fits.
-pub line-most : (number kind mode count : ℕ) (field : List ℕ) → length (lineOf number kind mode count field) ≤ 445
+-- No line is longer than the longest: where so many bytes are left, the next line fits.
+pub line-most : (number kind mode count : ℕ) (field : List ℕ) → length (lineOf number kind mode count field) ≤ longestLine
 unfolding lineOf
 line-most number kind mode count field =
     let said : Said = saidFor kind mode count field in
     let room : List ℕ = callOf kind mode count field .buffer in
-    let w : length (shown said room) ≤ 339
+    let w : length (shown said room) ≤ longest
     = shown-by (eqb (said .number) 0) (said .count) room (λ e. drawn-room kind mode count field (eqb-true (said .number) 0 e)) in
     simp length-append (omega (arith, few number, few (said .number), few (said .place), few (said .count), few (said .total)))
 
 -- the calls' answers: `symbology` is the kind's, `answer`, `room` and `said` are those of its drawing
 module _ (number kind mode count : ℕ) (field : List ℕ) (symbology : ℕ) (answer : Answer) (said : Said) (room : List ℕ) (k : symbology ≡ symbologyOf kind)
-    (a : answer ≡ drawField symbology mode count field (replicate 339 0) .answer) (r : room ≡ drawField symbology mode count field (replicate 339 0) .buffer)
+    (a : answer ≡ drawField symbology mode count field (replicate longest 0) .answer) (r : room ≡ drawField symbology mode count field (replicate longest 0) .buffer)
     (s : said ≡ saidOf answer) where
   room-is : room ≡ callOf kind mode count field .buffer
   unfolding callOf
@@ -81,7 +83,7 @@ module _ (number kind mode count : ℕ) (field : List ℕ) (symbology : ℕ) (an
   unfolding callOf
   said-is = s ∙ rw (a, k)
 
-  pub room-holds : (said .number ≡ 0 → said .count ≤ 339) × ((i : ℕ) → getD room i 0 ≤ 4)
+  pub room-holds : (said .number ≡ 0 → said .count ≤ longest) × ((i : ℕ) → getD room i 0 ≤ 4)
   room-holds = (λ z. rw said-is (drawn-room kind mode count field (rw said-is at z)), λ i. rw room-is (narrow-room kind mode count field i))
 
   pub record-put : {out p q : List ℕ} {at n m : ℕ} → Put out at (spaced (number ∷ said .number ∷ said .place ∷ said .count ∷ said .total ∷ [])) p n
@@ -107,9 +109,9 @@ stop-put records a b = then a b
 
 -- ---- rooms
 
-pub too-short : (out text : List ℕ) → length out < 445 → (0 ≡ length (roomy (length out) text)) × (out ≡ front (roomy (length out) text) out)
-too-short out text h = rw (lt-ltb (length out) 445 h) (refl, refl)
+pub too-short : (out text : List ℕ) → length out < longestLine → (0 ≡ length (roomy (length out) text)) × (out ≡ front (roomy (length out) text) out)
+too-short out text h = rw (lt-ltb (length out) longestLine h) (refl, refl)
 
-pub in-room : {out text q : List ℕ} {next : ℕ} → 445 ≤ length out → Put out 0 text q next
+pub in-room : {out text q : List ℕ} {next : ℕ} → longestLine ≤ length out → Put out 0 text q next
     → (next ≡ length (roomy (length out) text)) × (q ≡ front (roomy (length out) text) out)
-in-room {out} h p = rw (le-ltb (length out) 445 h) (at-front p)
+in-room {out} h p = rw (le-ltb (length out) longestLine h) (at-front p)

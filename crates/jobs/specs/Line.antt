@@ -1,7 +1,7 @@
 -- The line of a record (document 01, "Job file"): "record number from 1, answer, place, elements, modules and the widths as
 -- digits, or - if refused".
 --
---   callOf     the record's drawing, into a room of 339 zeros, as long as the longest strip
+--   callOf     the record's drawing, into a room of zeros, as long as the longest strip
 --   saidFor    its answer, place, count and total
 --   isDrawn    whether it is drawn: its answer is 0
 --   shown      the widths of a strip, or - where there is none
@@ -15,12 +15,13 @@ use Rattle.laws.specs.Search.{pick}
 use Rattle.words.specs.declared.Said.{Said}
 use Rattle.words.specs.Said.{saidOf}
 use Rattle.tables.specs.Printed.{text}
+use Rattle.symbologies.specs.Sizes.{longest}
 use Rattle.strip.specs.Drawing.{Call, drawField}
 use Rattle.jobs.specs.Kinds.{symbologyOf}
 use Rattle.jobs.specs.Text.{decimal, widths, line}
 
 unfoldable pub callOf : ℕ → ℕ → ℕ → List ℕ → Call
-callOf kind mode count field = drawField (symbologyOf kind) mode count field (replicate 339 0)
+callOf kind mode count field = drawField (symbologyOf kind) mode count field (replicate longest 0)
 
 abbrev pub saidFor : ℕ → ℕ → ℕ → List ℕ → Said
 saidFor kind mode count field = saidOf (callOf kind mode count field .answer)

@@ -14,7 +14,7 @@
 --   Held       what one call takes of the bytes that it is lent: how many, the text, the counts behind it, why it ended
 --   ends, behind    a call that takes nothing, and one that takes a record first
 --   heldRun    one call with so much room. It ends with More where what is left begins a record or is nothing, with Full where
---              the room left is below 445 bytes, the longest line, with Stopped at an unknown kind; heldBy, in so many steps
+--              the room left could not hold the longest line, with Stopped at an unknown kind; heldBy, in so many steps
 --   haltedAt, runOf    what a call answers, as it stands in the code
 use mathlib.Core.Bool.{Bool}
 use mathlib.Core.List.{List, [], _∷_, _++_}
@@ -23,6 +23,7 @@ use lib.Dec.{ltb, leb}
 use lib.ListN.{length, getD, take, drop}
 use Rattle.laws.specs.Search.{pick}
 use Rattle.tables.specs.Printed.{text}
+use Rattle.jobs.specs.Sizes.{longestLine}
 use Rattle.jobs.specs.declared.run.Ended.{Ended}
 use Rattle.jobs.specs.declared.run.Ended.the-variants.{More, Full, Stopped}
 use Rattle.jobs.specs.declared.run.Run.{Run}
@@ -107,7 +108,7 @@ heldBy zero room records drawn bytes = ends records drawn More
 heldBy (suc steps) room records drawn bytes =
     by (frontOf bytes) (ends records drawn More) (ends records drawn Stopped) (ends records drawn More)
     (λ x rest.
-    pick (ltb room 445) (ends records drawn Full)
+    pick (ltb room longestLine) (ends records drawn Full)
     (behind (suc (bodyOf (x .kind))) (lineFor (counted records) x)
     (heldBy steps (room - length (lineFor (counted records) x)) (counted records) (drawnFor drawn x) rest)))
 

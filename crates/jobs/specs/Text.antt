@@ -8,13 +8,14 @@
 --   putIn      a text in a buffer from an index on: what stands before and behind stays
 --   Put        so it was written, and `next` is the place behind it
 --   front      a text at the buffer's front
---   roomy      a text for a buffer of so many bytes: none where they are below 445, the longest line
+--   roomy      a text for a buffer of so many bytes: none where they could not hold the longest line
 use mathlib.Core.Path.{_≡_}
 use mathlib.Core.List.{List, [], _∷_, _++_, map}
 use Prim.Native.Nat.{ℕ, zero, suc, _+_, _/_, _%_, _≤_}
 use lib.Dec.{ltb}
 use lib.ListN.{length, take, drop}
 use Rattle.laws.specs.Search.{pick}
+use Rattle.jobs.specs.Sizes.{longestLine}
 
 abbrev pub digitsIn : ℕ → ℕ → List ℕ
 digitsIn zero n = []
@@ -48,4 +49,4 @@ abbrev pub front : List ℕ → List ℕ → List ℕ
 front text out = text ++ drop (length text) out
 
 abbrev pub roomy : ℕ → List ℕ → List ℕ
-roomy room text = pick (ltb room 445) [] text
+roomy room text = pick (ltb room longestLine) [] text

@@ -9,9 +9,11 @@
 //   text      numbers in decimal and widths as digits, written at a place of a buffer
 //   lines     the line of a record, and the last line
 //   run       the records that are held
+//   sizes     the bytes of the longest line
 mod kinds;
 mod lines;
 mod run;
+mod sizes;
 mod text;
 
 pub use lines::end_line;

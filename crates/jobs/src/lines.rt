@@ -1,12 +1,15 @@
-// The line of a record, and the last line of a run. No line is longer than 445 bytes: five numbers of at most 20 digits, five blanks,
-// 339 widths and the newline. A buffer that could not hold that is left as it was, and 0 is answered.
+// The line of a record, and the last line of a run. A buffer that could not hold the longest line is left as it was, and 0 is answered.
 use super::kinds;
+use super::sizes::LONGEST_LINE;
 use super::text;
+use symbologies::sizes::LONGEST;
 use words::Said;
 ghost use mathlib.Core.Path.{_≡_};
 ghost use mathlib.Core.List.{[], _∷_, _++_};
 ghost use Prim.Native.Nat.{ℕ, _+_, _≤_};
 ghost use lib.ListN.{length, getD};
+ghost use Rattle.symbologies.specs.Sizes.{longest};
+ghost use Rattle.jobs.specs.Sizes.{longestLine};
 ghost use Rattle.jobs.specs.Text.{spaced, Put, front, roomy};
 ghost use Rattle.jobs.specs.Line.{shown, isDrawn, lineOf};
 ghost use Rattle.jobs.specs.Run.{endLine, stopLine};
@@ -32,8 +35,8 @@ fn put_said(number: u64, said: Said, out: &mut [u8], at: usize) -> usize
 
 // The widths of the strip, or - where there is none, and the newline.
 fn put_strip(said: Said, room: &[u8], out: &mut [u8], at: usize) -> usize
-    requires { ⌜ (at + 340 ≤ length (now out)) × (length (now room) ≡ 339) ⌝ }
-    requires { ⌜ (said .number ≡ 0 → said .count ≤ 339) ⌝ }
+    requires { ⌜ (at + (longest + 1) ≤ length (now out)) × (length (now room) ≡ longest) ⌝ }
+    requires { ⌜ (said .number ≡ 0 → said .count ≤ longest) ⌝ }
     requires { ⌜ ((i : ℕ) → getD (now room) i 0 ≤ 4) ⌝ }
     ensures { λ r. ⌜ Put (now (out .entry)) at (shown said (now (room .entry)) ++ (10 ∷ [])) (now (out .exit)) r ⌝ }
 {
@@ -59,11 +62,11 @@ pub fn put_line(
     out: &mut [u8],
     at: usize,
 ) -> Written
-    requires { ⌜ at + 445 ≤ length (now out) ⌝ }
+    requires { ⌜ at + longestLine ≤ length (now out) ⌝ }
     ensures { λ r. ⌜ Put (now (out .entry)) at (lineOf number kind mode count (now (field .entry))) (now (out .exit)) (r .next) ⌝ }
     ensures { λ r. ⌜ r .drawn ≡ isDrawn kind mode count (now (field .entry)) ⌝ }
 {
-    let mut room = [0u8; 339];
+    let mut room = [0u8; LONGEST];
     let symbology = kinds::symbology_of(kind);
     let answer = strip::draw_field(symbology, mode, count as usize, field, &mut room);
     let said = words::say(answer);
@@ -80,7 +83,7 @@ pub fn end_line(records: u64, drawn: u64, out: &mut [u8]) -> usize
     ensures { λ r. ⌜ r ≡ length (roomy (length (now (out .entry))) (endLine records drawn)) ⌝ }
     ensures { λ _. ⌜ now (out .exit) ≡ front (roomy (length (now (out .entry))) (endLine records drawn)) (now (out .entry)) ⌝ }
 {
-    if out.len() < 445 {
+    if out.len() < LONGEST_LINE {
         return 0;
     }
     let a = bytes::copy(b"end ", out);
@@ -93,7 +96,7 @@ pub fn stop_line(records: u64, out: &mut [u8]) -> usize
     ensures { λ r. ⌜ r ≡ length (roomy (length (now (out .entry))) (stopLine records)) ⌝ }
     ensures { λ _. ⌜ now (out .exit) ≡ front (roomy (length (now (out .entry))) (stopLine records)) (now (out .entry)) ⌝ }
 {
-    if out.len() < 445 {
+    if out.len() < LONGEST_LINE {
         return 0;
     }
     let a = bytes::copy(b"stop ", out);

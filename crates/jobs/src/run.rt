@@ -1,6 +1,7 @@
 // The records among the bytes that are held.
 use super::kinds;
 use super::lines;
+use super::sizes::LONGEST_LINE;
 ghost use mathlib.Core.Path.{_≡_};
 ghost use Prim.Native.Nat.{_≤_};
 ghost use lib.ListN.{length};
@@ -73,7 +74,7 @@ pub fn run_held(held: &[u8], records: u64, drawn: u64, out: &mut [u8]) -> Run
         if held.len() - taken <= body {
             return halted(taken, written, number, good, Ended::More);
         }
-        if out.len() - written < 445 {
+        if out.len() - written < LONGEST_LINE {
             return halted(taken, written, number, good, Ended::Full);
         }
         let mode = held[taken + 1];

@@ -6,7 +6,9 @@ pub mod Sets
 pub mod Strips
 pub mod Shapes
 pub mod Spelling
+pub mod Fitting
 pub mod Remainders
 pub mod Weigh
 pub mod Neighbours
+pub mod Rules
 pub mod Only

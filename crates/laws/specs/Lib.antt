@@ -3,6 +3,7 @@ pub mod Elements
 pub mod Units
 pub mod Shapes
 pub mod Weigh
+pub mod Rules
 pub mod Neighbours
 pub mod Spelling
 pub mod One

@@ -9,9 +9,5 @@ pub mod Walking
 pub mod Hand
 pub mod Pieces
 pub mod Characters
-pub mod Lengths
 pub mod Seeing
-pub mod Shown
-pub mod Choices
-pub mod Exact
 pub mod Only

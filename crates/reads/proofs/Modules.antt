@@ -27,9 +27,9 @@ use Rattle.laws.specs.Units.{free, width}
 use Rattle.laws.proofs.Finite.{both-left, both-right, upto, upto-at, every, every-at}
 use Rattle.laws.proofs.Search.{first-le, first-hit}
 use Rattle.laws.proofs.Elements.{find-hit}
+use Rattle.words.specs.Order.{elementPlace}
 use Rattle.tables.specs.Ean.{table52, patterns, oddRows, evenRows, leftRows, rightRows}
 use Rattle.tables.proofs.Patterns.{three, SetDigit, among, setOf, foundPattern}
-use Rattle.reads.specs.Seen.{elementPlace}
 use Rattle.reads.specs.Held.{inFour, seven, patternSeen, Character, NoRow, foundRow, unitAt, patternAt}
 use Rattle.reads.proofs.Packing.{strided-take}
 

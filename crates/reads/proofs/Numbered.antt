@@ -1,52 +1,39 @@
--- Which unit stands where, by symbology number: counted by how many are left, the units of a shape are those that `unitOf` gives,
--- since behind the start the shapes repeat one group. The strips of EAN and UPC have one length, and there each unit is compared.
+-- Which unit stands where, by symbology number: counted by how many are left, the units of a strip are those that `unitOf` gives,
+-- since behind the start one group is repeated. The strips of EAN and UPC have one length, and there each unit is compared.
 --
---   past-nine     a number from 3 on that has none of the arms for 3 to 9 is 10 or more
 --   each-parted, each-paired, each-halved    what is so of a start, a character, a stop .. is so of each unit of a shape
 --   unit-some     a unit has at least one element
 --   fixed-small   a fixed pattern has at most nine, and its code as many bits
---   unit-length   the units of a shape are as many as `unitCount` says
---   unit-kind     unit u of a shape is the one with which so many are left
+--   units-long    how many units the parts of a strip have
+--   Stands        unit u of a strip is the one with which so many are left; unit-kind, so of every strip
 --
 -- Assumes nothing.
 use mathlib.Core.Path.{_≡_, refl, ap, _∙_}
 use mathlib.Core.Bool.{Bool, true, false, _&&_}
-use mathlib.Core.List.{[], _∷_, map}
+use mathlib.Core.List.{List, [], _∷_, map}
 use Prim.Native.Nat.{ℕ, zero, suc, _+_, _*_, _-_, _/_, _%_, _^_, _<_, _≤_}
 use native.Mathlib.Omega.{arith}
-use native.Mathlib.Nat.{add-zero, zero-add}
-use native.Mathlib.Decide.{decLt}
+use native.Mathlib.Nat.{add-zero, zero-add, not-suc-le-zero}
 use lib.Dec.{eqb, ltb, leb}
 use lib.ListN.{length, getD, length-append}
 use borrow.Author.Tests.{leb-true, ltb-true, eq-eqb, ne-eqb}
 use Rattle.laws.specs.Search.{pick}
 use Rattle.laws.specs.Units.{Kind}
-use Rattle.laws.specs.Shapes.{Layout, many, shape, gap}
+use Rattle.laws.specs.Shapes.{many, gap}
 use Rattle.laws.specs.Spelling.{counted as upFrom}
-use Rattle.laws.proofs.Finite.{both-left, both-right, each-at, From}
-use Rattle.laws.proofs.Arms.{Off, stretch}
-use Rattle.laws.proofs.Shapes.{add-shape}
+use Rattle.laws.proofs.Finite.{both-left, both-right, each-at}
 use Rattle.tables.specs.Alphabet.{bitsOf}
 use Rattle.tables.specs.Code39.{table42, chars39, alphabet39, star39}
 use Rattle.tables.specs.TwoOfFive.{industrialStart, industrialStop, interleavedStart, interleavedStop, matrixEnds}
 use Rattle.tables.specs.Ean.{guard, centre}
-use Rattle.units.specs.Plans.{code39, codabar, industrial, interleaved, matrix, halves, plans, planOf, unitsOf}
-use Rattle.units.specs.Laid.{counted}
-use Rattle.units.proofs.Counted.{by-number}
+use Rattle.symbologies.specs.Parts.{Part, parted, bare, part, close, partUnits, starred, lettering, industrial, interleaved, matrix, halved}
+use Rattle.symbologies.specs.Symbologies.{symbologies, symbologyOf}
+use Rattle.symbologies.specs.Strips.{unitsOf}
+use Rattle.symbologies.proofs.Laying.{total, add-parts}
 use Rattle.reads.specs.declared.kinds.Unit.{Unit}
 use Rattle.reads.specs.declared.kinds.Unit.the-variants.{Fixed, Char39, Letter, Inner, Industrial, Pair, Matrix, Odd, Left, Right}
-use Rattle.reads.specs.Held.{kindOf, partedUnit, pairedUnit, halvedUnit, unitsBy, unitOf, unitCounts, unitCount}
+use Rattle.reads.specs.Held.{kindOf, partedUnit, pairedUnit, halvedUnit, unitsBy, unitOf}
 use Rattle.reads.proofs.Widths.{sizeOf, widthOf}
-
-pub past-nine : (s : ℕ) → 3 ≤ s → Off (9 ∷ 8 ∷ 7 ∷ 6 ∷ 5 ∷ 4 ∷ 3 ∷ []) s → 10 ≤ s
-past-nine s h o = go (decLt s 10)
-  where
-    go : Dec (s < 10) → 10 ≤ s
-    go (yes l) =
-        let e : false ≡ true = stretch (9 ∷ 8 ∷ 7 ∷ 6 ∷ 5 ∷ 4 ∷ 3 ∷ []) 3 7 (λ b. false) refl s h l o in
-        let z : _≡_ {A = ℕ} 0 1 = cc in
-        omega arith
-    go (no l) = omega arith
 
 -- ---- what is so of each unit of a shape
 
@@ -104,74 +91,59 @@ fixed-small s units left k c e =
 
 -- ---- as many units
 
-abbrev Long : ℕ → Type 0
-Long s = (n : ℕ) → length (unitsOf s n) ≡ unitCount s n
-
-kinds-length : (l : Layout) (n : ℕ) → length (shape l n) ≡ length (l .head) + (n * length (l .group) + length (l .tail))
-kinds-length = add-shape length length-append
-
-long : From Long 1 9
-unfolding unitsOf planOf plans code39 codabar industrial interleaved matrix halves unitCount unitCounts
-long = (
-  λ n. omega (arith, kinds-length code39 n),
-  (
-    λ n. omega (arith, kinds-length code39 n),
-    (
-      λ n. omega (arith, kinds-length codabar (n - 2)),
-      (
-        λ n. omega (arith, kinds-length industrial n),
-        (λ n. omega (arith, kinds-length interleaved (n / 2)), (λ n. omega (arith, kinds-length matrix n), (λ n. refl, (λ n. refl, (λ n. refl, tt))))),
-      ),
-    ),
-  ),
-)
-
-pub unit-length : (s n : ℕ) → counted s n ≡ true → length (unitsOf s n) ≡ unitCount s n
-unit-length s n e = by-number Long long s n e n
+pub units-long : (n : ℕ) (ps : List Part) → length (partUnits n ps) ≡ total length n ps
+units-long = add-parts length length-append
 
 -- ---- which unit
 
-module _ (a c z : Unit) where
-  abbrev partedLayout : Layout
-  partedLayout = record { head = kindOf a ∷ gap ∷ []; group = kindOf c ∷ gap ∷ []; tail = kindOf z ∷ [] }
+abbrev Stands : (ℕ → ℕ → Unit) → List Kind → Type 0
+Stands f ks = (u : ℕ) → u < length ks → getD ks u gap ≡ kindOf (f (length ks) (length ks - u))
 
+module _ (a c z : Unit) where
   abbrev behind : ℕ → Unit
   behind left = pick (eqb left 1) z (pick (eqb (left % 2) 1) c (Fixed 1 0))
 
+  abbrev parting : List Part
+  parting = part (bare (kindOf a)) (λ n. n) (parted (kindOf c)) ∷ close (parted (kindOf z)) ∷ []
+
   -- behind the start, by how many are left
-  parted-behind : (n v : ℕ) → v < 2 * n + 1 → getD (many n (partedLayout .group) (partedLayout .tail)) v gap ≡ kindOf (behind (2 * n + 1 - v))
+  parted-behind : (n v : ℕ) → v < 2 * n + 2 → getD (many n (parted (kindOf c)) (parted (kindOf z))) v gap ≡ kindOf (behind (2 * n + 2 - v))
   parted-behind zero zero h = refl
-  parted-behind zero (suc v) h = absurd (omega arith)
-  parted-behind (suc n) zero h = rw (ne-eqb (2 * suc n + 1 - 0) 1 (omega arith), eq-eqb ((2 * suc n + 1 - 0) % 2) 1 (omega arith))
-  parted-behind (suc n) (suc zero) h = rw (ne-eqb (2 * suc n + 1 - 1) 1 (omega arith), ne-eqb ((2 * suc n + 1 - 1) % 2) 1 (omega arith))
+  parted-behind zero (suc zero) h = refl
+  parted-behind zero (suc (suc v)) h = absurd (omega arith)
+  parted-behind (suc n) zero h = rw (ne-eqb (2 * suc n + 2 - 0) 1 (omega arith), ne-eqb ((2 * suc n + 2 - 0) % 2) 1 (omega arith))
+  parted-behind (suc n) (suc zero) h = rw (ne-eqb (2 * suc n + 2 - 1) 1 (omega arith), eq-eqb ((2 * suc n + 2 - 1) % 2) 1 (omega arith))
   parted-behind (suc n) (suc (suc v)) h =
-      let e : 2 * suc n + 1 - suc (suc v) ≡ 2 * n + 1 - v = omega arith in
+      let e : 2 * suc n + 2 - suc (suc v) ≡ 2 * n + 2 - v = omega arith in
       rw e (parted-behind n v (omega arith))
 
-  parted-kind : (n u : ℕ) → u < 2 * n + 3 → getD (shape partedLayout n) u gap ≡ kindOf (partedUnit a c z (2 * n + 3) (2 * n + 3 - u))
+  parted-kind : (n u : ℕ) → u < 2 * n + 3 → getD (partUnits n parting) u gap ≡ kindOf (partedUnit a c z (2 * n + 3) (2 * n + 3 - u))
   parted-kind n zero h = rw (eq-eqb (2 * n + 3 - 0) (2 * n + 3) (omega arith))
-  parted-kind n (suc zero) h =
+  parted-kind n (suc v) h =
       let odd : (2 * n + 3) % 2 ≡ 1 = omega arith in
-      rw (odd, ne-eqb (2 * n + 3 - 1) (2 * n + 3) (omega arith), ne-eqb (2 * n + 3 - 1) 1 (omega arith), ne-eqb ((2 * n + 3 - 1) % 2) 1 (omega arith))
-  parted-kind n (suc (suc v)) h =
-      let odd : (2 * n + 3) % 2 ≡ 1 = omega arith in
-      let e : 2 * n + 3 - suc (suc v) ≡ 2 * n + 1 - v = omega arith in
-      rw (odd, e, ne-eqb (2 * n + 1 - v) (2 * n + 3) (omega arith)) (parted-behind n v (omega arith))
+      let e : 2 * n + 3 - suc v ≡ 2 * n + 2 - v = omega arith in
+      rw (odd, e, ne-eqb (2 * n + 2 - v) (2 * n + 3) (omega arith)) (parted-behind n v (omega arith))
 
-paired-behind : (m v : ℕ) → v < m + 1 → getD (many m (kindOf Pair ∷ []) (kindOf (Fixed 3 4) ∷ [])) v gap ≡ kindOf (pick (eqb (m + 1 - v) 1) (Fixed 3 4) Pair)
+  parted-stands : (n : ℕ) → Stands (partedUnit a c z) (partUnits n parting)
+  parted-stands n = let e : length (partUnits n parting) ≡ 2 * n + 3 = omega (arith, units-long n parting) in rw e (parted-kind n)
+
+paired-behind : (m v : ℕ) → v < m + 1 → getD (many m (bare (kindOf Pair)) (bare (kindOf (Fixed 3 4)))) v gap ≡ kindOf (pick (eqb (m + 1 - v) 1) (Fixed 3 4) Pair)
 paired-behind zero zero h = refl
 paired-behind zero (suc v) h = absurd (omega arith)
 paired-behind (suc m) zero h = rw (ne-eqb (suc m + 1 - 0) 1 (omega arith))
 paired-behind (suc m) (suc v) h = let e : suc m + 1 - suc v ≡ m + 1 - v = omega arith in rw e (paired-behind m v (omega arith))
 
-abbrev pairedLayout : Layout
-pairedLayout = record { head = kindOf (Fixed 4 0) ∷ []; group = kindOf Pair ∷ []; tail = kindOf (Fixed 3 4) ∷ [] }
+abbrev pairing : List Part
+pairing = part (bare (kindOf (Fixed 4 0))) (λ m. m) (bare (kindOf Pair)) ∷ close (bare (kindOf (Fixed 3 4))) ∷ []
 
-paired-kind : (m u : ℕ) → u < m + 2 → getD (shape pairedLayout m) u gap ≡ kindOf (pairedUnit (m + 2) (m + 2 - u))
+paired-kind : (m u : ℕ) → u < m + 2 → getD (partUnits m pairing) u gap ≡ kindOf (pairedUnit (m + 2) (m + 2 - u))
 paired-kind m zero h = rw (eq-eqb (m + 2 - 0) (m + 2) (omega arith))
 paired-kind m (suc v) h =
     let e : m + 2 - suc v ≡ m + 1 - v = omega arith in
     rw (e, ne-eqb (m + 1 - v) (m + 2) (omega arith)) (paired-behind m v (omega arith))
+
+paired-stands : (m : ℕ) → Stands pairedUnit (partUnits m pairing)
+paired-stands m = let e : length (partUnits m pairing) ≡ m + 2 = omega (arith, units-long m pairing) in rw e (paired-kind m)
 
 -- all units written out, by their number
 written-at : (f : ℕ → Kind) (i n u : ℕ) → u < n → getD (map f (upFrom i n)) u gap ≡ f (i + u)
@@ -182,27 +154,16 @@ written-at f i (suc n) (suc u) h = let e : suc i + u ≡ i + suc u = omega arith
 written-kind : (f : ℕ → Unit) (units u : ℕ) → u < units → getD (map (λ u. kindOf (f (units - u))) (upFrom 0 units)) u gap ≡ kindOf (f (units - u))
 written-kind f units u h = rw zero-add at (written-at (λ u. kindOf (f (units - u))) 0 units u h)
 
-abbrev Stands : ℕ → Type 0
-Stands s = (n u : ℕ) → u < unitCount s n → getD (unitsOf s n) u gap ≡ kindOf (unitOf s (unitCount s n) (unitCount s n - u))
-
-stands : From Stands 1 9
-unfolding unitsOf planOf plans code39 codabar industrial interleaved matrix halves star39 bitsOf alphabet39 chars39 table42 industrialStart industrialStop interleavedStart interleavedStop matrixEnds guard centre unitOf unitsBy unitCount unitCounts
-stands = (
-  parted-kind (Fixed 9 148) Char39 (Fixed 9 148),
-  (
-    parted-kind (Fixed 9 148) Char39 (Fixed 9 148),
-    (
-      λ n. parted-kind Letter Inner Letter (n - 2),
-      (
-        parted-kind (Fixed 5 20) Industrial (Fixed 5 17),
-        (
-          λ n. paired-kind (n / 2),
-          (parted-kind (Fixed 5 16) Matrix (Fixed 5 16), (λ n. written-kind (unitOf 7 15) 15, (λ n. written-kind (unitOf 8 11) 11, (λ n. written-kind (unitOf 9 15) 15, tt)))),
-        ),
-      ),
-    ),
-  ),
-)
-
-pub unit-kind : (s n u : ℕ) → counted s n ≡ true → u < unitCount s n → getD (unitsOf s n) u gap ≡ kindOf (unitOf s (unitCount s n) (unitCount s n - u))
-unit-kind s n u e = by-number Stands stands s n e n u
+pub unit-kind : (s n : ℕ) → Stands (unitOf s) (unitsOf s n)
+unfolding unitsOf symbologyOf symbologies starred lettering industrial interleaved matrix halved star39 bitsOf alphabet39 chars39 table42 industrialStart industrialStop interleavedStart interleavedStop matrixEnds guard centre unitOf unitsBy
+unit-kind zero n = λ u h. absurd (not-suc-le-zero h)
+unit-kind (suc zero) n = parted-stands (Fixed 9 148) Char39 (Fixed 9 148) n
+unit-kind (suc (suc zero)) n = parted-stands (Fixed 9 148) Char39 (Fixed 9 148) n
+unit-kind (suc (suc (suc zero))) n = parted-stands Letter Inner Letter (n - 2)
+unit-kind (suc (suc (suc (suc zero)))) n = parted-stands (Fixed 5 20) Industrial (Fixed 5 17) n
+unit-kind (suc (suc (suc (suc (suc zero))))) n = paired-stands (n / 2)
+unit-kind (suc (suc (suc (suc (suc (suc zero)))))) n = parted-stands (Fixed 5 16) Matrix (Fixed 5 16) n
+unit-kind (suc (suc (suc (suc (suc (suc (suc zero))))))) n = written-kind (unitOf 7 15) 15
+unit-kind (suc (suc (suc (suc (suc (suc (suc (suc zero)))))))) n = written-kind (unitOf 8 11) 11
+unit-kind (suc (suc (suc (suc (suc (suc (suc (suc (suc zero))))))))) n = written-kind (unitOf 9 15) 15
+unit-kind (suc (suc (suc (suc (suc (suc (suc (suc (suc (suc s)))))))))) n = λ u h. absurd (not-suc-le-zero h)

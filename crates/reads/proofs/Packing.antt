@@ -35,9 +35,9 @@ use Rattle.laws.specs.Units.{Kind, fixed, free, rows, width}
 use Rattle.laws.proofs.Finite.{both-left, both-right}
 use Rattle.laws.proofs.Elements.{alike-true, alike-self, find-hit, stretch-long}
 use Rattle.laws.proofs.Spelling.{below-test}
+use Rattle.words.specs.Order.{elementPlace}
 use Rattle.tables.specs.Bits.{bit, spread, number, numberFrom}
 use Rattle.tables.specs.Alphabet.{Alphabet, size, foundOf, rowsOf}
-use Rattle.reads.specs.Seen.{elementPlace}
 use Rattle.reads.specs.Held.{bitOf, strided, small, codeOf, Character, Passed, NoRow, unitAt}
 
 -- ---- one element

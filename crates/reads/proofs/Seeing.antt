@@ -3,57 +3,64 @@
 --   no-first, first-row, plain-row    11, EAN-13's row, any other row
 --   stop-seen, all-seen    10 where units are left, else the row of what was gathered
 --   under-seen             and what was gathered is below 100
---   given-counted          a count that passes is one of the symbology's
+--   given-none, turned-on  what a verdict says of the checks that it is made of
+--   given-few              a count that passes is at most as many as there are places
 --   turned-seen, given-seen    1, 2, 9, or what the units show
 --
 -- Assumes nothing.
-use mathlib.Core.Path.{_≡_, refl, ap}
-use mathlib.Core.Bool.{Bool, true, false, not}
-use mathlib.Core.List.{List, []}
+use mathlib.Core.Path.{_≡_, refl, sym, ap, _∙_}
+use mathlib.Core.Bool.{Bool, true, false}
+use mathlib.Core.List.{List, [], _∷_}
 use Prim.Native.Nat.{ℕ, _<_, _≤_}
 use native.Mathlib.Omega.{arith}
+use lib.Dec.{ltb}
 use lib.ListN.{length, getD}
-use borrow.Author.Tests.{eq-eqb, ne-eqb, lt-ltb, le-ltb, not-true, not-false}
+use borrow.Author.Tests.{lt-ltb, le-ltb, not-false}
 use Rattle.laws.specs.Search.{pick}
 use Rattle.laws.specs.Units.{Reading, found, stopped, read}
 use Rattle.words.specs.declared.Answer.{Answer}
-use Rattle.words.specs.declared.Answer.the-variants.{NoSymbology, NoMode, BadLength, NoSuchUnit, NoSuchParities}
+use Rattle.words.specs.declared.Answer.the-variants.{NoSuchUnit, NoSuchParities}
+use Rattle.words.specs.Order.{Check, firstOf, Outcome, turned}
+use Rattle.words.proofs.Order.{None, none-on}
 use Rattle.tables.specs.Ean.{firstDigit}
-use Rattle.rows.specs.declared.row.Row.{Row}
-use Rattle.rows.specs.declared.drawing.Verdict.the-variants.{Given, Turned}
-use Rattle.rows.specs.Limits.{offered}
-use Rattle.rows.specs.Symbologies.{symbologyOf}
-use Rattle.rows.specs.Rows.{Outcome, turned, drawable}
-use Rattle.rows.specs.Held.{rowIn, told, judge, judgedCount}
-use Rattle.rows.proofs.Back.{Drawable, count-given}
-use Rattle.units.specs.Plans.{unitsOf}
-use Rattle.units.specs.Laid.{counted}
-use Rattle.units.proofs.Counted.{counted-few}
+use Rattle.symbologies.specs.declared.row.Row.{Row}
+use Rattle.symbologies.specs.declared.limits.Verdict.the-variants.{Given, Turned}
+use Rattle.symbologies.specs.Sizes.{places}
+use Rattle.symbologies.specs.Parts.{Shown, paritiesIn}
+use Rattle.symbologies.specs.Symbologies.{symbologies, symbologyOf}
+use Rattle.symbologies.specs.Rows.{countChecks}
+use Rattle.symbologies.specs.Strips.{unitsOf, countFor, charsOf, rowSeen}
+use Rattle.symbologies.specs.Told.{rowIn, told, judgedCount}
+use Rattle.symbologies.proofs.Numbers.{only-seven}
+use Rattle.symbologies.proofs.Counted.{counted-few}
+use Rattle.symbologies.proofs.Counting.{drawn-counted}
 use Rattle.reads.specs.declared.walk.Walked.{Walked}
-use Rattle.reads.specs.Seen.{Rows, paritiesIn, charsOf, unlike, rowFrom, shown, countOf, seen, rowSeen}
-use Rattle.reads.specs.Held.{wordsIn, valueAt, noneSeen, walkFrom, unitCount, countFor}
+use Rattle.reads.specs.Held.{wordsIn, valueAt, noneSeen, walkFrom, rowFrom, shown}
 use Rattle.reads.proofs.Walking.{Ended, walk-read}
-use Rattle.reads.proofs.Lengths.{drawn-counted, count-fits, count-none}
 
 -- ---- 11, or the row
 
-module _ (s n : ℕ) (f : Rows) where
-  row-by : (row : Row) → unlike s f ≡ false → row ≡ rowIn (charsOf s n f) → record { verdict = Given; row = row } ≡ told (rowFrom s n f)
+module _ (s n : ℕ) (f : Shown) where
+  row-by : (row : Row) → symbologyOf s .shows .unlike f ≡ false → row ≡ rowIn (charsOf s n f) → record { verdict = Given; row = row } ≡ told (rowFrom s n f)
   row-by row u e = rw (u, e)
 
   pub plain-row : (row : Row) → (s ≡ 7 → ⊥) → row ≡ rowIn (charsOf s n f) → record { verdict = Given; row = row } ≡ told (rowFrom s n f)
-  plain-row row h e = row-by row (rw (ne-eqb s 7 h)) e
+  plain-row row h e = row-by row (only-seven s h f) e
 
   module _ (h : s ≡ 7) (first : ℕ) (is : first ≡ firstDigit (paritiesIn f)) where
+    like : (b : Bool) → ltb 9 first ≡ b → symbologyOf s .shows .unlike f ≡ b
+    unfolding symbologyOf symbologies
+    like b e = rw (h, ← is) e
+
     pub no-first : 9 < first → told (turned NoSuchParities) ≡ told (rowFrom s n f)
-    no-first l = let u : unlike s f ≡ true = rw (eq-eqb s 7 h, ← is, lt-ltb 9 first l) in rw u
+    no-first l = rw (like true (lt-ltb 9 first l))
 
     pub first-row : (row : Row) → first ≤ 9 → row ≡ rowIn (charsOf s n f) → record { verdict = Given; row = row } ≡ told (rowFrom s n f)
-    first-row row l e = row-by row (rw (eq-eqb s 7 h, ← is, le-ltb 9 first l)) e
+    first-row row l e = row-by row (like false (le-ltb 9 first l)) e
 
 -- ---- 10, or what was gathered
 
-same-rows : (s n : ℕ) (f g : Rows) → ((i : ℕ) → f i ≡ g i) → rowFrom s n f ≡ rowFrom s n g
+same-rows : (s n : ℕ) (f g : Shown) → ((i : ℕ) → f i ≡ g i) → rowFrom s n f ≡ rowFrom s n g
 same-rows s n f g h = ap (rowFrom s n) (λ k i. h i k)
 
 -- how a walk ended, by the reading that it is
@@ -70,7 +77,7 @@ module _ (s n : ℕ) (w : Walked) where
   ended-under (found cs) e l i = rw (e .1 .0 .each i) (e .1 .1 i)
   ended-under (stopped at) e l i = absurd (omega (arith, e .0))
 
-module _ (s n : ℕ) (t : List ℕ) (k : counted s n ≡ true) (w : Walked) (units : ℕ) (u : units ≡ unitCount s n) (is : w ≡ walkFrom s units t units 0 noneSeen) where
+module _ (s n : ℕ) (t : List ℕ) (k : n ≤ places) (w : Walked) (units : ℕ) (u : units ≡ length (unitsOf s n)) (is : w ≡ walkFrom s units t units 0 noneSeen) where
   ended : Ended (read (unitsOf s n) t) w []
   ended = rw (is, u) (walk-read s n t k)
 
@@ -85,32 +92,43 @@ module _ (s n : ℕ) (t : List ℕ) (k : counted s n ≡ true) (w : Walked) (uni
 
 -- ---- 1, 2, 9, or what the units show
 
-pub given-counted : (s m n : ℕ) → judgedCount s m n ≡ Given → counted s n ≡ true
-given-counted s m n e = let d : Drawable s m n = count-given s m n e in drawn-counted s m n (d .offers) (d .can)
+given-none : (cs : List Check) → firstOf Turned cs Given ≡ Given → None cs
+given-none [] e = tt
+given-none (c ∷ cs) e = go (c .applies) refl (given-none cs) e
+  where
+    go : (b : Bool) → c .applies ≡ b → (firstOf Turned cs Given ≡ Given → None cs) → pick b (Turned (c .answer)) (firstOf Turned cs Given) ≡ Given → None (c ∷ cs)
+    go true t f e = let z : _≡_ {A = ℕ} 0 1 = cc in absurd (omega arith)
+    go false t f e = (t, f e)
 
-turned-by : (a b c : Bool) (x : Answer) (z : Outcome) → (b ≡ false → c ≡ true → z ≡ turned BadLength) → judge a b c ≡ Turned x
-    → told (turned x) ≡ told (pick a (turned NoSymbology) (pick b (turned NoMode) z))
-turned-by true b c x z h e = let q : NoSymbology ≡ x = cc in rw q
-turned-by false true c x z h e = let q : NoMode ≡ x = cc in rw q
-turned-by false false true x z h e = let q : BadLength ≡ x = cc in rw (h refl refl, q)
-turned-by false false false x z h e = let q : _≡_ {A = ℕ} 0 1 = cc in absurd (omega arith)
+turned-on : (cs : List Check) (x : Answer) → firstOf Turned cs Given ≡ Turned x → (z : Outcome) → firstOf turned cs z ≡ turned x
+turned-on [] x e z = cc
+turned-on (c ∷ cs) x e z = go (c .applies) (λ h. turned-on cs x h z) e
+  where
+    go : (b : Bool) → (firstOf Turned cs Given ≡ Turned x → firstOf turned cs z ≡ turned x) → pick b (Turned (c .answer)) (firstOf Turned cs Given) ≡ Turned x
+        → pick b (turned (c .answer)) (firstOf turned cs z) ≡ turned x
+    go true f e = let q : c .answer ≡ x = cc in rw q
+    go false f e = f e
+
+pub given-few : (s m n : ℕ) → judgedCount s m n ≡ Given → n ≤ places
+unfolding judgedCount
+given-few s m n e =
+    let q : None (countChecks (symbologyOf s) m n) = given-none (countChecks (symbologyOf s) m n) e in
+    counted-few s n (drawn-counted s m n (not-false _ (q .1 .0)) (not-false _ (q .1 .1 .0)))
 
 module _ (s m : ℕ) (t : List ℕ) where
-  no-count : offered (symbologyOf s .limits) m ≡ true → drawable (symbologyOf s) m (countFor s (length t)) ≡ false → seen s m t ≡ turned BadLength
-  unfolding seen
-  no-count o d = rw (count-none s m (length t) o d)
+  abbrev n : ℕ
+  n = countFor s (length t)
 
-  pub turned-seen : (x : Answer) → judgedCount s m (countFor s (length t)) ≡ Turned x → told (turned x) ≡ told (rowSeen s m t)
-  unfolding judgedCount rowSeen
-  turned-seen x e =
-      turned-by (not (symbologyOf s .limits .known)) (not (offered (symbologyOf s .limits) m)) (not (drawable (symbologyOf s) m (countFor s (length t)))) x (seen s m t)
-      (λ o d. no-count (not-false _ o) (not-true _ d)) e
+  seen-behind : rowSeen s m t ≡ firstOf turned (countChecks (symbologyOf s) m n) (shown s n (read (unitsOf s n) t))
+  unfolding rowSeen
+  seen-behind = refl
 
-  pub given-seen : judgedCount s m (countFor s (length t)) ≡ Given
-      → told (shown s (countFor s (length t)) (read (unitsOf s (countFor s (length t))) t)) ≡ told (rowSeen s m t)
-  unfolding seen rowSeen
+  pub turned-seen : (x : Answer) → judgedCount s m n ≡ Turned x → told (turned x) ≡ told (rowSeen s m t)
+  unfolding judgedCount
+  turned-seen x e = ap told (sym (seen-behind ∙ turned-on (countChecks (symbologyOf s) m n) x e _))
+
+  pub given-seen : judgedCount s m n ≡ Given → told (shown s n (read (unitsOf s n) t)) ≡ told (rowSeen s m t)
+  unfolding judgedCount
   given-seen e =
-      let d : Drawable s m (countFor s (length t)) = count-given s m (countFor s (length t)) e in
-      let c : countOf s m (length t) ≡ countFor s (length t) = count-fits s m (length t) (d .offers) (d .can) in
-      let l : countFor s (length t) < 35 = omega (arith, counted-few s (countFor s (length t)) (given-counted s m (countFor s (length t)) e)) in
-      rw (d .known, d .offers, c, lt-ltb (countFor s (length t)) 35 l)
+      let cs : List Check = countChecks (symbologyOf s) m n in
+      ap told (sym (seen-behind ∙ none-on turned cs _ (given-none cs e)))

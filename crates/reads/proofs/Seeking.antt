@@ -30,6 +30,7 @@ use Rattle.laws.specs.Search.{pick}
 use Rattle.laws.specs.Units.{free, width}
 use Rattle.laws.proofs.Finite.{both-left, both-right, upto-at, From, from-at}
 use Rattle.laws.proofs.Search.{index-hit}
+use Rattle.words.specs.Order.{elementPlace}
 use Rattle.tables.specs.Alphabet.{Alphabet, size, bitsOf, foundOf}
 use Rattle.tables.specs.Code39.{table42, chars39, alphabet39, rows39}
 use Rattle.tables.specs.Codabar.{table41, alphabetCodabar}
@@ -42,7 +43,6 @@ use Rattle.reads.specs.declared.kinds.Unit.the-variants.{Fixed, Char39, 
 use Rattle.reads.specs.declared.search.Sought.{Sought}
 use Rattle.reads.specs.declared.gather.Gathered.{Gathered}
 use Rattle.reads.specs.declared.walk.Walked.{Walked}
-use Rattle.reads.specs.Seen.{elementPlace}
 use Rattle.reads.specs.Held.{Found, Character, NoRow, kindOf, unitsBy, unitOf, unitAt, strided, codeOf, seek, nowhere, passedAt, spacesIn, firstBy, pastBy, patternAt, soughtIn, soughtOf, isRow, numberOf, rowBy, foundBy, codesBy, codesFor, noneSeen, onward, stop, walkFrom, walkBy}
 use Rattle.reads.proofs.Numbered.{each-parted, each-paired, each-halved, unit-some, fixed-small}
 use Rattle.reads.proofs.Packing.{fixed-row, fixed-miss}

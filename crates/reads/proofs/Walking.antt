@@ -12,31 +12,34 @@ use mathlib.Core.Bool.{Bool, true, false}
 use mathlib.Core.List.{List, [], _∷_, _++_, append-nil, append-assoc}
 use Prim.Native.Nat.{ℕ, zero, suc, _+_, _-_, _<_, _≤_}
 use native.Mathlib.Omega.{arith}
-use lib.Dec.{ltb, leb, lit≤}
+use lib.Dec.{ltb, lit≤}
 use lib.ListN.{length, getD, take, drop, length-append}
 use lib.Seq.{drop-drop}
-use borrow.Author.Tests.{ltb-true, leb-true}
+use borrow.Author.Tests.{ltb-true}
 use Rattle.laws.specs.Search.{pick}
 use Rattle.laws.specs.Elements.{find}
 use Rattle.laws.specs.Units.{Kind, fixed, free, rows, width, frees, Reading, found, stopped, push, next, readAt, read}
 use Rattle.laws.specs.Shapes.{gap}
+use Rattle.laws.proofs.Finite.{Each}
+use Rattle.words.specs.Order.{elementPlace}
 use Rattle.tables.specs.Alphabet.{rowsOf}
 use Rattle.tables.specs.Code39.{rows39, alphabet39, chars39}
 use Rattle.tables.specs.Codabar.{innerRows, letterRows, alphabetCodabar, table41}
 use Rattle.tables.specs.TwoOfFive.{industrialRows, interleavedRows, matrixRows, digitRows, alphabetDigits, table44}
 use Rattle.tables.specs.Ean.{oddRows, evenRows, leftRows, rightRows, patterns, table52}
-use Rattle.rows.specs.Symbologies.{symbologies, symbologyOf}
-use Rattle.units.specs.Plans.{code39, codabar, industrial, interleaved, matrix, halves, plans, planOf, unitsOf}
-use Rattle.units.specs.Laid.{counted}
-use Rattle.units.proofs.Counted.{counting, each-count}
+use Rattle.symbologies.specs.Sizes.{places}
+use Rattle.symbologies.specs.Parts.{starred, lettering, industrial, interleaved, matrix, halved}
+use Rattle.symbologies.specs.Symbologies.{Symbology, symbologies, symbologyOf}
+use Rattle.symbologies.specs.Strips.{unitsOf}
+use Rattle.symbologies.proofs.Numbers.{by-number}
+use Rattle.symbologies.proofs.Laying.{total, add-parts}
 use Rattle.reads.specs.declared.kinds.Unit.{Unit}
 use Rattle.reads.specs.declared.kinds.Unit.the-variants.{Fixed, Char39, Letter, Inner, Industrial, Pair, Matrix, Odd, Left, Right}
 use Rattle.reads.specs.declared.gather.Gathered.{Gathered}
 use Rattle.reads.specs.declared.walk.Walked.{Walked}
-use Rattle.reads.specs.Seen.{elementPlace}
-use Rattle.reads.specs.Held.{kindOf, unitOf, unitCount, NoRow, stood, unitAt, noneSeen, takenOf, stop, onward, walkFrom}
+use Rattle.reads.specs.Held.{kindOf, unitOf, NoRow, stood, unitAt, noneSeen, takenOf, stop, onward, walkFrom}
 use Rattle.reads.proofs.Gathering.{Gathers, none-gathers, taken-gathers}
-use Rattle.reads.proofs.Numbered.{unit-length, unit-kind}
+use Rattle.reads.proofs.Numbered.{unit-kind}
 
 abbrev pub Under : List ℕ → Type 0
 Under cs = (i : ℕ) → getD cs i 0 < 100
@@ -108,16 +111,20 @@ walked s units t (k ∷ ks) is at g cs l gs u =
     (step at g cs gs u (walkFrom s units t (length ks)) (readAt ks (at + width k) (drop (at + width k) t)) (length ks) (ltb c (length (rows k))) k c ks low l
     (λ h ds m hs v. walked s units t ks more (at + width k) h ds m hs v))
 
--- the free units of a strip are no more than can be gathered
-frees-test : counting (λ s n. leb (frees (unitsOf s n)) 40) ≡ true
-unfolding counted symbologyOf symbologies unitsOf planOf plans code39 codabar industrial interleaved matrix halves
-frees-test = refl
+-- the free units of a strip are no more than can be gathered: no more than its characters, or twelve
+frees-append : (a b : List Kind) → frees (a ++ b) ≡ frees a + frees b
+frees-append [] b = omega arith
+frees-append (fixed r ∷ a) b = frees-append a b
+frees-append (free k ∷ a) b = omega (arith, frees-append a b)
 
-few-frees : (s n : ℕ) → counted s n ≡ true → frees (unitsOf s n) ≤ 40
-few-frees s n e = leb-true (frees (unitsOf s n)) 40 (each-count (λ s n. leb (frees (unitsOf s n)) 40) frees-test s n e)
+few-frees : (n : ℕ) → n ≤ places → (s : ℕ) → frees (unitsOf s n) ≤ 40
+unfolding unitsOf symbologies starred lettering industrial interleaved matrix halved
+few-frees n h s = rw (add-parts frees frees-append n (symbologyOf s .parts)) (by-number (λ (y : Symbology). total frees n (y .parts) ≤ 40) few (omega arith) s)
+  where
+    few : Each (λ (y : Symbology). total frees n (y .parts) ≤ 40) symbologies
+    few = (omega arith, (omega arith, (omega arith, (omega arith, (omega arith, (omega arith, (omega arith, (omega arith, (omega arith, (omega arith, tt))))))))))
 
-pub walk-read : (s n : ℕ) (t : List ℕ) → counted s n ≡ true → Ended (read (unitsOf s n) t) (walkFrom s (unitCount s n) t (unitCount s n) 0 noneSeen) []
-walk-read s n t e =
-    let l : length (unitsOf s n) ≡ unitCount s n = unit-length s n e in
-    let is : Kinds s (unitCount s n) (unitsOf s n) = λ j h. rw l (unit-kind s n j e (rw (← l) h)) in
-    rw l at (walked s (unitCount s n) t (unitsOf s n) is 0 noneSeen [] (omega (arith, few-frees s n e)) none-gathers under-none)
+pub walk-read : (s n : ℕ) (t : List ℕ) → n ≤ places
+    → Ended (read (unitsOf s n) t) (walkFrom s (length (unitsOf s n)) t (length (unitsOf s n)) 0 noneSeen) []
+walk-read s n t h =
+    walked s (length (unitsOf s n)) t (unitsOf s n) (unit-kind s n) 0 noneSeen [] (omega (arith, few-frees n h s)) none-gathers under-none

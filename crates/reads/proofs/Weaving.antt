@@ -31,13 +31,13 @@ use Rattle.laws.specs.Units.{free, width}
 use Rattle.laws.proofs.Finite.{upto, line, grid}
 use Rattle.laws.proofs.Elements.{alike-true, find-hit, stretch-long}
 use Rattle.laws.proofs.Spelling.{below-test}
+use Rattle.words.specs.Order.{elementPlace}
 use Rattle.tables.specs.Bits.{spread, spaced, weave}
 use Rattle.tables.specs.Alphabet.{Alphabet, size, foundOf, rowsOf}
 use Rattle.tables.specs.Code39.{table42, chars39, alphabet39, rows39}
 use Rattle.tables.specs.Codabar.{table41, alphabetCodabar, innerRows, letterRows}
 use Rattle.tables.specs.TwoOfFive.{table44, alphabetDigits, digitRows, industrialRows, interleavedRows, matrixRows}
 use Rattle.reads.specs.declared.kinds.Unit.the-variants.{Industrial, Pair}
-use Rattle.reads.specs.Seen.{elementPlace}
 use Rattle.reads.specs.Held.{strided, codeOf, Character, NoRow, unitAt}
 use Rattle.reads.proofs.Packing.{alike-spread, strided-take, found-rows, unit-row, unit-none}
 use Rattle.reads.proofs.Widths.{wide}

@@ -13,8 +13,7 @@
 --   wordsIn, ofWords              rows gathered in words of eight
 --   noneSeen, takenOf, valueAt    none of them; one more; the one at an index
 --   walkFrom       the units left, read from a place on; walkBy, the same by the search over lent tables
---   countFor       the count for which document 01's formula gives a length, whatever the mode; 0 where there is none
---   unitCount      how many units a strip of n characters has
+--   rowFrom, shown    11, or the row, by the rows that the free units show; 10 before them, by a reading of the units
 use mathlib.Core.Bool.{Bool, true, false, _&&_}
 use mathlib.Core.List.{List, [], _∷_, map}
 use Prim.Native.Nat.{ℕ, zero, suc, _+_, _*_, _-_, _/_, _%_, _^_}
@@ -22,20 +21,25 @@ use lib.Dec.{eqb, ltb, leb}
 use lib.ListN.{length, getD, take, drop, set}
 use Rattle.laws.specs.Search.{pick}
 use Rattle.laws.specs.Elements.{find}
-use Rattle.laws.specs.Units.{Kind, fixed, free, rows, width}
+use Rattle.laws.specs.Units.{Kind, fixed, free, rows, width, Reading}
 use Rattle.words.specs.declared.ElementPlace.{ElementPlace}
+use Rattle.words.specs.declared.Answer.the-variants.{NoSuchUnit, NoSuchParities}
+use Rattle.words.specs.Order.{check, firstOf, Outcome, turned, outcome, elementPlace}
 use Rattle.tables.specs.Bits.{bit, spread, number}
 use Rattle.tables.specs.Alphabet.{foundOf}
 use Rattle.tables.specs.Code39.{alphabet39, rows39}
 use Rattle.tables.specs.Codabar.{alphabetCodabar, innerRows, letterRows}
 use Rattle.tables.specs.TwoOfFive.{alphabetDigits, industrialRows, interleavedRows, matrixRows}
 use Rattle.tables.specs.Ean.{oddRows, leftRows, rightRows}
+use Rattle.symbologies.specs.Parts.{Shown}
+use Rattle.symbologies.specs.Symbologies.{symbologyOf}
+use Rattle.symbologies.specs.Rows.{stops, stopAt, finds}
+use Rattle.symbologies.specs.Strips.{charsOf}
 use Rattle.reads.specs.declared.kinds.Unit.{Unit}
 use Rattle.reads.specs.declared.kinds.Unit.the-variants.{Fixed, Char39, Letter, Inner, Industrial, Pair, Matrix, Odd, Left, Right}
 use Rattle.reads.specs.declared.search.Sought.{Sought}
 use Rattle.reads.specs.declared.gather.Gathered.{Gathered}
 use Rattle.reads.specs.declared.walk.Walked.{Walked}
-use Rattle.reads.specs.Seen.{elementPlace}
 
 -- ---- elements as codes
 
@@ -249,47 +253,12 @@ walkBy codes sets s units t (suc n) at g =
     let rest = walkBy codes sets s units t n in
     onward (foundBy codes sets (soughtOf (unitOf s units (suc n)) t at)) rest g (stop g at (suc n))
 
--- ---- counts
+-- ---- what is seen
 
--- the count whose length is `least` for n = base, and `step` more for each character more
-abbrev pub steps : ℕ → ℕ → ℕ → ℕ → ℕ
-steps base least step long = pick (leb least long && eqb ((long - least) % step) 0) (base + (long - least) / step) 0
+-- 11, or the row of n characters
+abbrev pub rowFrom : ℕ → ℕ → Shown → Outcome
+rowFrom s n f = outcome (check (symbologyOf s .shows .unlike f) NoSuchParities ∷ []) (charsOf s n f)
 
-abbrev pub only : ℕ → ℕ → ℕ → ℕ
-only n one long = pick (eqb long one) n 0
-
-unfoldable pub countsBy : List (ℕ → ℕ)
-countsBy =
-    (λ long. 0)
-    ∷ steps 0 19 10
-    ∷ steps 0 19 10
-    ∷ steps 1 7 8
-    ∷ steps 0 11 10
-    ∷ steps 0 7 5
-    ∷ steps 0 11 6
-    ∷ only 13 59
-    ∷ only 8 43
-    ∷ only 12 59
-    ∷ []
-
-unfoldable pub countFor : ℕ → ℕ → ℕ
-countFor s long = getD countsBy s (λ long. 0) long
-
--- by symbology number: a start, a character and a space each, a stop, and a space behind the start; Codabar's letters are
--- start and stop; pairs; halves
-unfoldable pub unitCounts : List (ℕ → ℕ)
-unitCounts =
-    (λ n. 0)
-    ∷ (λ n. 2 * n + 3)
-    ∷ (λ n. 2 * n + 3)
-    ∷ (λ n. 2 * (n - 2) + 3)
-    ∷ (λ n. 2 * n + 3)
-    ∷ (λ n. n / 2 + 2)
-    ∷ (λ n. 2 * n + 3)
-    ∷ (λ n. 15)
-    ∷ (λ n. 11)
-    ∷ (λ n. 15)
-    ∷ []
-
-unfoldable pub unitCount : ℕ → ℕ → ℕ
-unitCount s n = getD unitCounts s (λ n. 0) n
+-- 10, 11, or the row
+abbrev pub shown : ℕ → ℕ → Reading → Outcome
+shown s n z = firstOf turned (check (stops z) (NoSuchUnit (elementPlace (stopAt z))) ∷ []) (rowFrom s n (λ i. getD (finds z) i 0))

@@ -4,7 +4,7 @@
 // strip's length gives the count of characters and with it the units; they are tested left to right, and the first that is in no
 // row ends the walk.
 //
-//   counts      characters from a length, units from characters
+//   counts      units from characters
 //   kinds       which unit stands where
 //   pack        a unit's elements packed to its code
 //   search      the plain core: what is sought at a place of the strip, and whether a row is it
@@ -21,41 +21,42 @@ mod position;
 mod search;
 mod walk;
 
-use rows::Row;
-use rows::Rowed;
-use rows::Verdict;
+use symbologies::lengths;
+use symbologies::limits;
+use symbologies::limits::Verdict;
+use symbologies::row;
+use symbologies::row::Row;
+use symbologies::row::Rowed;
 use words::Answer;
 ghost use mathlib.Core.Path.{_≡_};
-ghost use mathlib.Core.Bool.{true};
 ghost use Prim.Native.Nat.{ℕ, _<_, _≤_};
 ghost use Rattle.laws.specs.Units.{read};
-ghost use Rattle.rows.specs.declared.drawing.Verdict.the-variants.{Given};
-ghost use Rattle.rows.specs.Held.{told};
-ghost use Rattle.units.specs.Plans.{unitsOf};
-ghost use Rattle.units.specs.Laid.{counted};
-ghost use Rattle.reads.specs.Seen.{rowFrom, shown, rowSeen};
-ghost use Rattle.reads.specs.Held.{valueAt};
+ghost use Rattle.symbologies.specs.declared.limits.Verdict.the-variants.{Given};
+ghost use Rattle.symbologies.specs.Sizes.{places};
+ghost use Rattle.symbologies.specs.Strips.{unitsOf, rowSeen};
+ghost use Rattle.symbologies.specs.Told.{told};
+ghost use Rattle.reads.specs.Held.{valueAt, rowFrom, shown};
 
 // The row of a strip.
 pub fn row_seen(symbology: u8, mode: u8, strip: &[u8]) -> Rowed
     ensures { λ r. ⌜ r ≡ told (rowSeen symbology mode (now (strip .entry))) ⌝ }
 {
-    let n = counts::count_for(symbology, strip.len());
-    match rows::judge_count(symbology, mode, n) {
-        Verdict::Turned(answer) => rows::turn_away(answer),
+    let n = lengths::count_for(symbology, strip.len());
+    match limits::judge_count(symbology, mode, n) {
+        Verdict::Turned(answer) => row::turn_away(answer),
         Verdict::Given => read_strip(symbology, n, strip),
     }
 }
 
 // 10, 11, or the row of n characters.
 fn read_strip(symbology: u8, n: usize, strip: &[u8]) -> Rowed
-    requires { ⌜ counted symbology n ≡ true ⌝ }
+    requires { ⌜ n ≤ places ⌝ }
     ensures { λ r. ⌜ r ≡ told (shown symbology n (read (unitsOf symbology n) (now (strip .entry)))) ⌝ }
 {
     let walked = walk::read_all(strip, symbology, counts::unit_count(symbology, n));
     let at = walked.at;
     if 0 < walked.left {
-        return rows::turn_away(Answer::NoSuchUnit(at));
+        return row::turn_away(Answer::NoSuchUnit(at));
     }
     let gathered = walked.gathered;
     judge(symbology, n, gather::words_of(gathered))
@@ -63,13 +64,13 @@ fn read_strip(symbology: u8, n: usize, strip: &[u8]) -> Rowed
 
 // 11, or the row.
 fn judge(symbology: u8, n: usize, words: [u64; 5]) -> Rowed
-    requires { ⌜ ((i : ℕ) → valueAt words i < 100) × (n ≤ 34) ⌝ }
+    requires { ⌜ ((i : ℕ) → valueAt words i < 100) × (n ≤ places) ⌝ }
     ensures { λ r. ⌜ r ≡ told (rowFrom symbology n (valueAt words)) ⌝ }
 {
     if symbology == 7 {
         let first = tables::ean::first_digit(chars::parities(words));
         if 9 < first {
-            return rows::turn_away(Answer::NoSuchParities);
+            return row::turn_away(Answer::NoSuchParities);
         }
         return give(chars::row_back(symbology, n, words, first));
     }

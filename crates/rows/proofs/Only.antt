@@ -1,29 +1,24 @@
--- One answer for each input of this crate's public functions, and one content of the lent buffer.
+-- One answer for each input of this crate's public functions, and one content of what is lent to them.
 -- Assumes nothing.
+use mathlib.Core.Path.{ap}
 use Rattle.laws.specs.One.{One, OneBuffer}
 use Rattle.laws.proofs.Only.{only}
-use Rattle.rows.proofs.coder.size_of.Reads as SizeOf
-use Rattle.rows.proofs.coder.size_of.Kinds as SizeOfKinds
-use Rattle.rows.proofs.drawing.turn_away.Reads as TurnAway
-use Rattle.rows.proofs.drawing.turn_away.Kinds as TurnAwayKinds
+use Rattle.symbologies.specs.declared.row.Rowed.{Rowed}
+use Rattle.rows.specs.declared.drawing.Filled.{Filled}
 use Rattle.rows.proofs.drawing.row_of_field.Reads as RowOfField
 use Rattle.rows.proofs.drawing.row_of_field.Kinds as RowOfFieldKinds
-use Rattle.rows.proofs.reading.judge_count.Reads as JudgeCount
-use Rattle.rows.proofs.reading.judge_count.Kinds as JudgeCountKinds
-use Rattle.rows.proofs.data_of.Reads as DataOf
-use Rattle.rows.proofs.data_of.Kinds as DataOfKinds
+use Rattle.rows.proofs.reading.data_of.Reads as DataOf
+use Rattle.rows.proofs.reading.data_of.Kinds as DataOfKinds
 
-pub size-of : One 0 SizeOfKinds.ps SizeOfKinds.r SizeOf.Learnt
-size-of κs a p q x y = only
+-- the answer of an outcome as the code holds it
+abbrev filled : Rowed → Filled
+filled w = record { verdict = w .verdict; len = w .row .len }
 
-pub turn-away : One 0 TurnAwayKinds.ps TurnAwayKinds.r TurnAway.Learnt
-turn-away κs a p q x y = only
+pub row-of-field : One 2 RowOfFieldKinds.ps RowOfFieldKinds.r RowOfField.Learnt
+row-of-field κs a p q x y h k = ap filled (only h k)
 
-pub row-of-field : One 1 RowOfFieldKinds.ps RowOfFieldKinds.r RowOfField.Learnt
-row-of-field κs a p q x y = only
-
-pub judge-count : One 0 JudgeCountKinds.ps JudgeCountKinds.r JudgeCount.Learnt
-judge-count κs a p q x y = only
+pub row-of-field-places : OneBuffer 2 RowOfFieldKinds.ps RowOfFieldKinds.r (λ κs x. x .1 .1 .1 .1 .0 .now) RowOfField.Learnt
+row-of-field-places κs a p q x y h k = ap (λ (w : Rowed). w .row .codes) (only h k)
 
 pub data-of : One 1 DataOfKinds.ps DataOfKinds.r DataOf.Learnt
 data-of κs a p q x y h k = only (h .0) (k .0)

@@ -1,155 +1,99 @@
 -- How lists stand in the structs of src/.
 --
---   pad, rowIn     a list in a row: its first 34 entries, zeros behind them, and its length
---   pushed         a row with one character more
---   pieceList      the characters of a piece; putAll, a row with them behind it; isNil, whether there are none
---   isEnd          whether index i of n is the first or the last
---   spelledIn      a reading, and how far it came
---   itemOf         the item that characters begin with
---   Small, taken   a weighted sum that can't overflow, and with one value more
---   weighed        the total when all values are taken up
---   sumBy          an empty sum; fromRight, with the weights of n characters, of which the rightmost weighs 3
---   starts, startOf    empty sums with the weights of n characters, by symbology number
---   told           an outcome as the code holds it
---   closed         the check, behind the head or refused; finished, 5, 6, 7 and the row
---   judge          1, 2, 9, or nothing against it; judgedCount, whether a mode can give a drawn count
---   dataOfRow      a row's data: of its first `len` places
---   byteCount, handedOf, written    the answer, 8 where the lent buffer has less room, and the buffer afterwards
-use mathlib.Core.Bool.{Bool, true, false, _&&_, not}
+--   pushed, putAll   a row with one character more, and with several
+--   SpelledAs        what data spell, as the code holds it: how far it came, the row and its sum
+--   itemOf           the item that characters begin with
+--   MeasuredAs       what characters spell, as the code holds it; Written, they spell data that fit
+--   filledAs         an outcome as the code holds it: verdict, number and the lent places
+--   closedRow, finishedRow, filledRow    the row of what was spelled, behind 7, behind 5, 6, 7, and of data, behind 4, 5, 6, 7
+--   readData         the data of a row whose count is given, behind 12, 7
+--   dataOfRow        a row's data: of its first `len` places
+--   handedOf, written    the answer, 8 where the lent buffer has less room, and the buffer afterwards
+use mathlib.Core.Path.{_≡_}
+use mathlib.Core.Bool.{Bool, true}
 use mathlib.Core.List.{List, [], _∷_, _++_}
-use Prim.Native.Nat.{ℕ, zero, suc, _+_, _*_, _%_, _≤_}
-use lib.Dec.{eqb, ltb}
-use lib.ListN.{length, getD, take, drop, set}
+use Prim.Native.Nat.{ℕ, _+_, _≤_}
+use lib.Dec.{ltb}
+use lib.ListN.{length, take, drop, set}
 use Rattle.laws.specs.Search.{pick}
-use Rattle.laws.specs.Units.{Reading, found, stopped}
-use Rattle.laws.specs.Spelling.{Coder, atEnd, byteFor}
-use Rattle.rows.specs.declared.row.Row.{Row}
-use Rattle.rows.specs.declared.full_ascii.Piece.{Piece}
-use Rattle.rows.specs.declared.full_ascii.Piece.the-variants.{Alone, Pair, Nothing}
-use Rattle.rows.specs.declared.check.Sum.{Sum}
+use Rattle.laws.specs.Units.{found, stopped}
+use Rattle.laws.specs.Spelling.{ends, stands, Coder, byteFor, unspell}
+use Rattle.words.specs.declared.Answer.the-variants.{ShortForData}
+use Rattle.words.specs.Order.{check, Outcome, gives, turned, outcome, byteCount}
+use Rattle.symbologies.specs.declared.row.Row.{Row}
+use Rattle.symbologies.specs.declared.row.Rowed.{Rowed}
+use Rattle.symbologies.specs.Symbologies.{Symbology}
+use Rattle.symbologies.specs.Rows.{wrong, wrongAt, spelled, drawnOf, rowDrawn, closing, textChecks, dataRead, dataChecks, dataOfCount}
+use Rattle.symbologies.specs.Told.{rowIn}
 use Rattle.rows.specs.declared.spelling.Spelled.{Spelled}
-use Rattle.rows.specs.declared.spelling.Item.{Item}
-use Rattle.rows.specs.declared.drawing.Verdict.{Verdict}
-use Rattle.rows.specs.declared.drawing.Verdict.the-variants.{Given, Turned}
-use Rattle.rows.specs.declared.drawing.Rowed.{Rowed}
+use Rattle.rows.specs.declared.items.Item.{Item}
+use Rattle.rows.specs.declared.items.Measured.{Measured}
+use Rattle.rows.specs.declared.drawing.Filled.{Filled}
 use Rattle.rows.specs.declared.reading.Handed.{Handed}
-use Rattle.rows.specs.declared.reading.Handed.the-variants.{Data, Turned as HandedTurned}
-use Rattle.words.specs.declared.Bytes.{Bytes}
-use Rattle.words.specs.declared.Answer.the-variants.{NoSymbology, NoMode, BadLength, OddCount, TooManyDrawn, BadCheck, ShortForData}
-use Rattle.rows.specs.Limits.{offered}
-use Rattle.rows.specs.Symbologies.{Symbology, symbologyOf}
-use Rattle.rows.specs.Checks.{checkOf}
-use Rattle.rows.specs.Rows.{Outcome, gives, turned, charPlace, odd, drawable, dataOfCount}
+use Rattle.rows.specs.declared.reading.Handed.the-variants.{Data, Turned}
+use Rattle.rows.specs.Sums.{othersIn, Checks}
 
-abbrev pub pad : ℕ → List ℕ → List ℕ
-pad zero cs = []
-pad (suc n) [] = 0 ∷ pad n []
-pad (suc n) (c ∷ cs) = c ∷ pad n cs
-
-abbrev pub rowIn : List ℕ → Row
-rowIn cs = record { codes = pad 34 cs; len = length cs }
-
--- a store past the end changes nothing
+-- a store past the places changes nothing
 abbrev pub pushed : Row → ℕ → Row
 pushed r v = record { codes = set (r .codes) (r .len) v; len = r .len + 1 }
-
-abbrev pub pieceList : Piece → List ℕ
-pieceList (Alone c) = c ∷ []
-pieceList (Pair c d) = c ∷ d ∷ []
-pieceList Nothing = []
 
 abbrev pub putAll : Row → List ℕ → Row
 putAll r [] = r
 putAll r (c ∷ cs) = putAll (pushed r c) cs
 
-abbrev pub isNil : List ℕ → Bool
-isNil [] = true
-isNil (c ∷ cs) = false
+pub record SpelledAll (y : Symbology) (m n : ℕ) (h : List ℕ) (r : Spelled) (codes : List ℕ) : Type 0 where
+  pub whole : r .bad .0 ≡ n
+  pub row : record { codes = codes; len = r .len } ≡ rowIn h
+  pub sum : Checks (y .rule) (othersIn m h) (r .sum)
 
-abbrev pub isEnd : ℕ → ℕ → Bool
-isEnd i n = pick (eqb i 0) true (eqb (i + 1) n)
-
--- what `Reading` gives, with n for "all"
-abbrev pub spelledIn : ℕ → Reading → Spelled
-spelledIn n (found cs) = record { row = rowIn cs; bad = n }
-spelledIn n (stopped i) = record { row = rowIn []; bad = i }
+pub record SpelledAs (y : Symbology) (m : ℕ) (text : List ℕ) (r : Spelled) (codes : List ℕ) : Type 0 where
+  pub stop : (i : ℕ) → spelled y m text ≡ stopped i → r .bad .0 ≡ i
+  pub all : (h : List ℕ) → spelled y m text ≡ found h → SpelledAll y m (length text) h r codes
 
 -- the item at the front of characters: its byte and its width
 abbrev pub itemOf : Coder → Bool → List ℕ → Item
 itemOf k start [] = record { byte = 256; width = 1 }
-itemOf k start (c ∷ []) = record { byte = byteFor k true (c ∷ []); width = 1 }
+itemOf k start (c ∷ []) = record { byte = byteFor k (stands start []) (c ∷ []); width = 1 }
 itemOf k start (c ∷ d ∷ cs) =
-    pick (k .shift c) (record { byte = byteFor k (atEnd start cs) (c ∷ d ∷ []); width = 2 }) (record { byte = byteFor k start (c ∷ []); width = 1 })
+    pick (k .shift (ends cs) c) (record { byte = byteFor k (stands start cs) (c ∷ d ∷ []); width = 2 }) (record { byte = byteFor k (stands start (d ∷ cs)) (c ∷ []); width = 1 })
 
--- after i bytes, each of a weight of at most 100
-pub record Small (i : ℕ) (s : Sum) : Type 0 where
-  pub total : s .total ≤ 25500 * i
-  pub weight : s .weight ≤ 100
-  pub other : s .other ≤ 100
+pub record MeasuredAll (y : Symbology) (m : ℕ) (cs d : List ℕ) (r : Measured) : Type 0 where
+  pub whole : r .bad .0 ≡ length cs
+  pub bytes : r .bytes ≡ length d
+  pub sum : Checks (y .rule) (othersIn m cs) (r .sum)
 
-abbrev pub taken : Sum → ℕ → Sum
-taken s v = record { modulus = s .modulus; weight = s .other; other = s .weight; total = s .total + s .weight * v }
+pub record MeasuredAs (y : Symbology) (m : ℕ) (cs : List ℕ) (r : Measured) : Type 0 where
+  pub stop : (i : ℕ) → unspell (y .coder m) true 0 cs ≡ stopped i → r .bad .0 ≡ i
+  pub all : (d : List ℕ) → unspell (y .coder m) true 0 cs ≡ found d → MeasuredAll y m cs d r
 
-abbrev pub weighed : Sum → List ℕ → ℕ
-weighed s [] = s .total
-weighed s (v ∷ vs) = weighed (taken s v) vs
-
-abbrev pub sumBy : ℕ → ℕ → ℕ → Sum
-sumBy m w o = record { modulus = m; weight = w; other = o; total = 0 }
-
-abbrev pub fromRight : ℕ → Sum
-fromRight n = pick (eqb (n % 2) 1) (sumBy 10 3 1) (sumBy 10 1 3)
-
-abbrev pub starts : ℕ → List Sum
-starts n =
-    sumBy 1 0 0
-    ∷ sumBy 43 1 1
-    ∷ sumBy 43 1 1
-    ∷ sumBy 1 0 0
-    ∷ fromRight n
-    ∷ fromRight n
-    ∷ fromRight n
-    ∷ fromRight n
-    ∷ fromRight n
-    ∷ fromRight n
-    ∷ []
-
-unfoldable pub startOf : ℕ → ℕ → Sum
-startOf s n = getD (starts n) s (sumBy 1 0 0)
+pub record Written (k : Coder) (cs : List ℕ) (room : ℕ) : Type 0 where
+  pub text : List ℕ
+  pub is : unspell k true 0 cs ≡ found text
+  pub fits : length text ≤ room
 
 -- ---- what the calls answer
 
-abbrev pub told : Outcome → Rowed
-told (gives cs) = record { verdict = Given; row = rowIn cs }
-told (turned a) = record { verdict = Turned a; row = rowIn [] }
+abbrev pub filledAs : Filled → List ℕ → Rowed
+filledAs f codes = record { verdict = f .verdict; row = record { codes = codes; len = f .len } }
 
-abbrev pub closed : ℕ → Row → ℕ → ℕ → Rowed
-closed m head v c =
-    pick (eqb m 0) (record { verdict = Given; row = head })
-    (pick (eqb m 1 && not (eqb v c)) (told (turned (BadCheck (charPlace (head .len))))) (record { verdict = Given; row = pushed head c }))
+unfoldable pub closedRow : Symbology → ℕ → List ℕ → Outcome
+closedRow y m h = outcome (check (wrong y m (drawnOf y m h)) (wrongAt y (drawnOf y m h)) ∷ []) (drawnOf y m h)
 
--- v is the check that was given, in mode 1
-unfoldable pub finished : Symbology → ℕ → Row → ℕ → Rowed
-finished y m head v =
-    pick (odd y (head .len + pick (eqb m 0) 0 1)) (told (turned OddCount))
-    (pick (ltb (y .room) (head .len + pick (eqb m 0) 0 1)) (told (turned TooManyDrawn))
-    (closed m head v (checkOf (y .rule) (take (head .len) (head .codes)))))
+unfoldable pub finishedRow : Symbology → ℕ → List ℕ → Outcome
+finishedRow y m h = outcome (closing y m (drawnOf y m h)) (drawnOf y m h)
 
-abbrev pub judge : Bool → Bool → Bool → Verdict
-judge unknown unoffered undrawn = pick unknown (Turned NoSymbology) (pick unoffered (Turned NoMode) (pick undrawn (Turned BadLength) Given))
+unfoldable pub filledRow : Symbology → ℕ → List ℕ → Outcome
+filledRow y m d = outcome (textChecks y m d) (rowDrawn y m d)
 
-unfoldable pub judgedCount : ℕ → ℕ → ℕ → Verdict
-judgedCount s m n = judge (not (symbologyOf s .limits .known)) (not (offered (symbologyOf s .limits) m)) (not (drawable (symbologyOf s) m n))
+unfoldable pub readData : Symbology → ℕ → List ℕ → Outcome
+readData y m r = outcome (dataChecks y m r) (dataRead y m r)
 
 unfoldable pub dataOfRow : ℕ → ℕ → Row → Outcome
 dataOfRow s m row = dataOfCount s m (row .len) (take (row .len) (row .codes))
 
-abbrev pub byteCount : ℕ → Bytes
-byteCount n = record { 0 = n }
-
 abbrev pub handedOf : Outcome → ℕ → Handed
-handedOf (gives d) room = pick (ltb room (length d)) (HandedTurned (ShortForData (byteCount (length d)))) (Data (byteCount (length d)))
-handedOf (turned a) room = HandedTurned a
+handedOf (gives d) room = pick (ltb room (length d)) (Turned (ShortForData (byteCount (length d)))) (Data (byteCount (length d)))
+handedOf (turned a) room = Turned a
 
 -- the buffer afterwards: the data and what stood behind them, or, on every refusal, what stood there
 abbrev pub written : Outcome → List ℕ → List ℕ

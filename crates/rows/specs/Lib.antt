@@ -1,6 +1,2 @@
-pub mod Limits
-pub mod Coders
-pub mod Checks
-pub mod Symbologies
-pub mod Rows
+pub mod Sums
 pub mod Held

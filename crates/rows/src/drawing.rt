@@ -1,69 +1,52 @@
 // Data to row, with document 01's refusals in its order: 1, 2, 3, 13, 4, 5, 6, 7.
-use super::check;
-use super::coder;
-use super::limits;
-use super::limits::Limits;
-use super::row;
-use super::row::Row;
+use super::check::Sum;
 use super::spelling;
+use symbologies::limits;
+use symbologies::limits::Verdict;
+use symbologies::sizes::PLACES;
 use words::Answer;
 use words::CharPlace;
 use words::DataPlace;
 ghost use mathlib.Core.Path.{_≡_};
-ghost use Prim.Native.Nat.{_+_, _<_, _≤_};
-ghost use lib.Dec.{eqb};
+ghost use mathlib.Core.List.{List, []};
+ghost use Prim.Native.Nat.{ℕ, _+_, _<_, _≤_};
 ghost use lib.ListN.{length, drop};
-ghost use Rattle.laws.specs.Search.{pick};
-ghost use Rattle.rows.specs.Limits.{offered, holds};
-ghost use Rattle.rows.specs.Symbologies.{symbologyOf};
-ghost use Rattle.rows.specs.Rows.{turned, odd, nonzero, drawnRow, rowOfField};
-ghost use Rattle.rows.specs.Held.{told, finished};
+ghost use Rattle.words.specs.Order.{turned};
+ghost use Rattle.symbologies.specs.Sizes.{places};
+ghost use Rattle.laws.specs.Rules.{checkOf};
+ghost use Rattle.symbologies.specs.declared.limits.Verdict.the-variants.{Given};
+ghost use Rattle.symbologies.specs.Limits.{added};
+ghost use Rattle.symbologies.specs.Told.{pad, rowIn, told};
+ghost use Rattle.symbologies.specs.Symbologies.{Symbology, symbologyOf};
+ghost use Rattle.symbologies.specs.Rows.{nonzero, rowOfField};
+ghost use Rattle.rows.specs.Sums.{othersIn, Checks};
+ghost use Rattle.rows.specs.Held.{filledAs, closedRow, finishedRow, filledRow};
 
-// Whether a row is given, or the answer that turns the input away.
-pub enum Verdict {
-    Given,
-    Turned(Answer),
-}
-
-// A row, and whether it is given. A row that is not is empty.
-pub struct Rowed {
+// Whether the lent places hold a row, and how many characters it has; where it is turned away they hold none.
+pub struct Filled {
     pub verdict: Verdict,
-    pub row: Row,
+    pub len: usize,
 }
 
-// An answer, with an empty row.
-pub fn turn_away(answer: Answer) -> Rowed
-    ensures { λ r. ⌜ r ≡ told (turned answer) ⌝ }
+// An answer; the places are cleared.
+fn refuse(answer: Answer, codes: &mut [u8; PLACES]) -> Filled
+    ensures { λ r. ⌜ filledAs r (now (codes .exit)) ≡ told (turned answer) ⌝ }
 {
-    Rowed {
+    *codes = [0; PLACES];
+    Filled {
         verdict: Verdict::Turned(answer),
-        row: row::empty(),
+        len: 0,
     }
 }
 
-// 2: whether a mode is offered.
-pub fn offers(limits: Limits, mode: u8) -> bool
-    ensures { λ r. ⌜ r ≡ offered limits mode ⌝ }
+// A row of so many characters.
+fn give(len: usize) -> Filled
+    ensures { λ r. ⌜ r ≡ record { verdict = Given; len = len } ⌝ }
 {
-    let most = limits.most;
-    if mode < 3 {
-        0 < most[mode as usize]
-    } else {
-        false
+    Filled {
+        verdict: Verdict::Given,
+        len,
     }
-}
-
-// 3: whether a mode takes so many data bytes.
-pub fn takes(limits: Limits, mode: u8, count: usize) -> bool
-    requires { ⌜ mode < 3 ⌝ }
-    ensures { λ r. ⌜ r ≡ holds limits mode count ⌝ }
-{
-    let least = limits.least;
-    let most = limits.most;
-    if count < least[mode as usize] as usize {
-        return false;
-    }
-    count <= most[mode as usize] as usize
 }
 
 // 13: the index of the first byte from `count` on that is not zero, or the field's length.
@@ -81,121 +64,90 @@ fn first_nonzero(field: &[u8], count: usize) -> usize
     i
 }
 
-// 5: whether Interleaved is drawn with an odd count.
-pub fn is_odd(symbology: u8, count: usize) -> bool
-    ensures { λ r. ⌜ r ≡ odd (symbologyOf symbology) count ⌝ }
+// The drawn characters: mode 2 adds the check.
+fn drawn_count(mode: u8, len: usize) -> usize
+    requires { ⌜ len < 900 ⌝ }
+    ensures { λ r. ⌜ r ≡ len + added mode ⌝ }
 {
-    if symbology == 5 {
-        count % 2 == 1
-    } else {
-        false
-    }
+    if mode == 2 { len + 1 } else { len }
 }
 
-// How many characters may be drawn.
-fn room_of(symbology: u8) -> usize
-    ensures { λ r. ⌜ r ≡ symbologyOf symbology .room ⌝ }
+// 7, and then the row: in mode 1 the check is the last character, mode 2 puts it in behind the others.
+fn close(mode: u8, len: usize, right: u8, codes: &mut [u8; PLACES]) -> Filled
+    requires { ⌜ (mode < 3) × ((0 < len) × ((len + added mode ≤ places) × (length (now codes) ≡ places))) ⌝ }
+    ensures { λ r. ⌜ ((y : Symbology) (h : List ℕ) → y .rule .behind ≡ 0 → record { codes = now (codes .entry); len = len } ≡ rowIn h → right ≡ checkOf (y .rule) (othersIn mode h) → filledAs r (now (codes .exit)) ≡ told (closedRow y mode h)) ⌝ }
 {
-    if symbology == 2 { 32 } else { 34 }
-}
-
-// The characters that a head of n is drawn with: modes 1 and 2 have the check behind it.
-fn drawn_count(mode: u8, n: usize) -> usize
-    requires { ⌜ n < 900 ⌝ }
-    ensures { λ r. ⌜ r ≡ n + pick (eqb mode 0) 0 1 ⌝ }
-{
-    if mode == 0 { n } else { n + 1 }
-}
-
-// 5, 6, 7, and then the row: the spelled characters and, in modes 1 and 2, the check. Mode 1 was given it as `value`.
-fn finish(symbology: u8, mode: u8, head: Row, value: u8) -> Rowed
-    requires { ⌜ head .len < 900 ⌝ }
-    ensures { λ r. ⌜ r ≡ finished (symbologyOf symbology) mode head value ⌝ }
-{
-    let n = head.len;
-    let count = drawn_count(mode, n);
-    if is_odd(symbology, count) {
-        return turn_away(Answer::OddCount);
-    }
-    if room_of(symbology) < count {
-        return turn_away(Answer::TooManyDrawn);
-    }
     if mode == 0 {
-        return Rowed {
-            verdict: Verdict::Given,
-            row: head,
-        };
+        return give(len);
     }
-    let codes = head.codes;
-    let right = check::check_of(symbology, &codes, n);
     if mode == 1 {
-        if value != right {
-            return turn_away(Answer::BadCheck(CharPlace(n)));
+        if codes[len - 1] != right {
+            return refuse(Answer::BadCheck(CharPlace(len - 1)), codes);
         }
+        return give(len);
     }
-    Rowed {
-        verdict: Verdict::Given,
-        row: row::push(head, right),
-    }
+    codes[len] = right;
+    give(len + 1)
 }
 
-// Mode 1: the last byte is the check, a raw character.
-fn checked_row(symbology: u8, text: &[u8]) -> Rowed
-    requires { ⌜ (0 < length (now text)) × (length (now text) ≤ 34) ⌝ }
-    ensures { λ r. ⌜ r ≡ told (drawnRow (symbologyOf symbology) 1 (now (text .entry))) ⌝ }
-{
-    let body = text.len() - 1;
-    let spelled = spelling::spell_text(symbology, &text[..body]);
-    let bad = spelled.bad;
-    if bad < body {
-        return turn_away(Answer::BadByte(DataPlace(bad)));
-    }
-    let value = coder::value_of(symbology, text[body]);
-    if coder::size_of(symbology) <= value {
-        return turn_away(Answer::BadByte(DataPlace(body)));
-    }
-    let row = spelled.row;
-    finish(symbology, 1, row, value)
-}
-
-// Modes 0 and 2: all bytes are spelled.
-fn spelled_row(symbology: u8, mode: u8, text: &[u8]) -> Rowed
-    requires { ⌜ (mode < 3) × ((mode ≡ 1 → ⊥) × (length (now text) ≤ 34)) ⌝ }
-    ensures { λ r. ⌜ r ≡ told (drawnRow (symbologyOf symbology) mode (now (text .entry))) ⌝ }
-{
-    let n = text.len();
-    let spelled = spelling::spell_text(symbology, text);
-    let bad = spelled.bad;
-    if bad < n {
-        return turn_away(Answer::BadByte(DataPlace(bad)));
-    }
-    let row = spelled.row;
-    finish(symbology, mode, row, 0)
-}
-
-// The row of a field, by the tests in their order.
-pub fn row_of_field(symbology: u8, mode: u8, count: usize, field: &[u8]) -> Rowed
-    ensures { λ r. ⌜ r ≡ told (rowOfField symbology mode count (now (field .entry))) ⌝ }
+// 5, 6, 7, and then the row.
+fn finish(symbology: u8, mode: u8, len: usize, sum: Sum, codes: &mut [u8; PLACES]) -> Filled
+    requires { ⌜ (mode < 3) × ((0 < len) × ((len < 900) × (length (now codes) ≡ places))) ⌝ }
+    requires { ⌜ (0 < sum .modulus) × (sum .modulus ≤ 255) ⌝ }
+    ensures { λ r. ⌜ ((h : List ℕ) → record { codes = now (codes .entry); len = len } ≡ rowIn h → Checks (symbologyOf symbology .rule) (othersIn mode h) sum → filledAs r (now (codes .exit)) ≡ told (finishedRow (symbologyOf symbology) mode h)) ⌝ }
 {
     let limits = limits::limits_of(symbology);
+    let count = drawn_count(mode, len);
+    if limits::is_odd(limits, count) {
+        return refuse(Answer::OddCount, codes);
+    }
+    if limits.room < count {
+        return refuse(Answer::TooManyDrawn, codes);
+    }
+    close(mode, len, sum.check(), codes)
+}
+
+// 4, and then that.
+fn fill(symbology: u8, mode: u8, text: &[u8], codes: &mut [u8; PLACES]) -> Filled
+    requires { ⌜ (mode < 3) × (((0 < length (now text)) × (length (now text) ≤ places)) × (now codes ≡ pad places [])) ⌝ }
+    ensures { λ r. ⌜ filledAs r (now (codes .exit)) ≡ told (filledRow (symbologyOf symbology) mode (now (text .entry))) ⌝ }
+{
+    let n = text.len();
+    let spelled = spelling::spell_text(symbology, mode, text, codes);
+    let bad = spelled.bad;
+    if bad.0 < n {
+        return refuse(Answer::BadByte(bad), codes);
+    }
+    finish(symbology, mode, spelled.len, spelled.sum, codes)
+}
+
+// The row of a field in the lent places, by the tests in their order.
+pub fn row_of_field(
+    symbology: u8,
+    mode: u8,
+    count: usize,
+    field: &[u8],
+    codes: &mut [u8; PLACES],
+) -> Filled
+    ensures { λ r. ⌜ filledAs r (now (codes .exit)) ≡ told (rowOfField symbology mode count (now (field .entry))) ⌝ }
+{
+    *codes = [0; PLACES];
+    let limits = limits::limits_of(symbology);
     if !limits.known {
-        return turn_away(Answer::NoSymbology);
+        return refuse(Answer::NoSymbology, codes);
     }
-    if !offers(limits, mode) {
-        return turn_away(Answer::NoMode);
+    if !limits::offers(limits, mode) {
+        return refuse(Answer::NoMode, codes);
     }
-    if !takes(limits, mode, count) {
-        return turn_away(Answer::BadCount);
+    if !limits::takes(limits, mode, count) {
+        return refuse(Answer::BadCount, codes);
     }
     if field.len() < count {
-        return turn_away(Answer::BadCount);
+        return refuse(Answer::BadCount, codes);
     }
     let at = first_nonzero(field, count);
     if at < field.len() {
-        return turn_away(Answer::FieldNotZero(DataPlace(at)));
+        return refuse(Answer::FieldNotZero(DataPlace(at)), codes);
     }
-    if mode == 1 {
-        return checked_row(symbology, &field[..count]);
-    }
-    spelled_row(symbology, mode, &field[..count])
+    fill(symbology, mode, &field[..count], codes)
 }

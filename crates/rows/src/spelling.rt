@@ -1,100 +1,85 @@
-// Data to characters and back, by what the bytes of a symbology draw.
-use super::coder;
-use super::row;
-use super::row::Row;
+// Data to characters, by what the bytes of a symbology draw where they stand.
+use super::check;
+use super::check::Sum;
+use coders::Piece;
+use symbologies::sizes::PLACES;
+use words::DataPlace;
 ghost use mathlib.Core.Path.{_≡_};
-ghost use mathlib.Core.Bool.{true};
+ghost use mathlib.Core.List.{[]};
 ghost use Prim.Native.Nat.{_<_, _≤_};
-ghost use lib.Dec.{eqb};
-ghost use lib.ListN.{length, take, drop};
-ghost use Rattle.laws.specs.Spelling.{spell, unspell};
-ghost use Rattle.rows.specs.Symbologies.{symbologyOf};
-ghost use Rattle.rows.specs.Held.{spelledIn, itemOf};
+ghost use lib.ListN.{length, set};
+ghost use Rattle.coders.specs.Pieces.{pieceList};
+ghost use Rattle.symbologies.specs.Sizes.{places};
+ghost use Rattle.symbologies.specs.Told.{pad};
+ghost use Rattle.symbologies.specs.Symbologies.{symbologyOf};
+ghost use Rattle.rows.specs.Held.{putAll, SpelledAs};
 
-// What came out, and the index of the first that failed, or the number of all.
+// How many characters came out, the place of the first byte that is not allowed, or the number of all, and the sum of the characters
+// beside the check that the data hold in mode 1.
 pub struct Spelled {
-    pub row: Row,
-    pub bad: usize,
+    pub len: usize,
+    pub bad: DataPlace,
+    pub sum: Sum,
+}
+
+// A character stored at a place, or nothing past the places.
+fn store(codes: &mut [u8; PLACES], at: usize, value: u8)
+    requires { ⌜ length (now codes) ≡ places ⌝ }
+    ensures { λ _. ⌜ now (codes .exit) ≡ set (now (codes .entry)) at value ⌝ }
+{
+    if at < PLACES {
+        codes[at] = value;
+    }
+}
+
+// A piece's characters behind the first `len`, and how many there are then.
+fn put(codes: &mut [u8; PLACES], len: usize, piece: Piece) -> usize
+    requires { ⌜ (len < 900) × (length (now codes) ≡ places) ⌝ }
+    ensures { λ r. ⌜ record { codes = now (codes .exit); len = r } ≡ putAll (record { codes = now (codes .entry); len = len }) (pieceList piece) ⌝ }
+    ensures { λ _. ⌜ length (now (codes .exit)) ≡ places ⌝ }
+{
+    match piece {
+        Piece::Alone(value) => {
+            store(codes, len, value);
+            len + 1
+        }
+        Piece::Pair(shift, letter) => {
+            store(codes, len, shift);
+            store(codes, len + 1, letter);
+            len + 2
+        }
+        Piece::Nothing => len,
+    }
 }
 
 // The characters of data.
-pub fn spell_text(symbology: u8, text: &[u8]) -> Spelled
-    requires { ⌜ length (now text) ≤ 34 ⌝ }
-    ensures { λ r. ⌜ r ≡ spelledIn (length (now (text .entry))) (spell (symbologyOf symbology .coder) true 0 (now (text .entry))) ⌝ }
+pub fn spell_text(symbology: u8, mode: u8, text: &[u8], codes: &mut [u8; PLACES]) -> Spelled
+    requires { ⌜ ((0 < length (now text)) × (length (now text) ≤ places)) × (now codes ≡ pad places []) ⌝ }
+    ensures { λ r. ⌜ SpelledAs (symbologyOf symbology) mode (now (text .entry)) r (now (codes .exit)) ⌝ }
 {
     let n = text.len();
-    let mut codes = [0; 34];
+    let own = check::own_of(mode, n);
+    let mut sum = check::start_of(symbology, own);
     let mut len = 0;
     let mut i = 0;
     while i < n {
-        let end = coder::is_end(i, n);
-        let piece = coder::drawn(symbology, end, text[i]);
-        if coder::is_nothing(piece) {
+        let piece = coders::drawn(symbology, mode, i == 0, i + 1 == n, text[i]);
+        if coders::is_nothing(piece) {
             return Spelled {
-                row: row::empty(),
-                bad: i,
+                len,
+                bad: DataPlace(i),
+                sum,
             };
         }
-        len = coder::put(&mut codes, len, piece);
+        len = put(codes, len, piece);
+        if i != own {
+            sum = check::take_up(sum, piece);
+        }
         i += 1;
     }
     Spelled {
-        row: Row { codes, len },
-        bad: n,
-    }
-}
-
-// A byte, or 256, and the characters that draw it.
-pub struct Item {
-    pub byte: u16,
-    pub width: usize,
-}
-
-// The item that begins at a place of a row's first n characters.
-fn item_at(symbology: u8, codes: &[u8; 34], at: usize, n: usize) -> Item
-    requires { ⌜ (at < n) × ((n ≤ 34) × (length (now codes) ≡ 34)) ⌝ }
-    ensures { λ r. ⌜ r ≡ itemOf (symbologyOf symbology .coder) (eqb at 0) (drop at (take n (now (codes .entry)))) ⌝ }
-{
-    let c = codes[at];
-    if coder::is_shift(symbology, c) {
-        if at + 1 < n {
-            let end = coder::is_end(at, n - 1);
-            return Item {
-                byte: coder::pair(symbology, end, c, codes[at + 1]),
-                width: 2,
-            };
-        }
-    }
-    let end = coder::is_end(at, n);
-    Item {
-        byte: coder::alone(symbology, end, c),
-        width: 1,
-    }
-}
-
-// The data that a row's first n characters spell.
-pub fn unspell_row(symbology: u8, codes: &[u8; 34], n: usize) -> Spelled
-    requires { ⌜ (n ≤ 34) × (length (now codes) ≡ 34) ⌝ }
-    ensures { λ r. ⌜ r ≡ spelledIn n (unspell (symbologyOf symbology .coder) true 0 (take n (now (codes .entry)))) ⌝ }
-{
-    let mut text = [0; 34];
-    let mut len = 0;
-    let mut at = 0;
-    while at < n {
-        let item = item_at(symbology, codes, at, n);
-        let byte = item.byte;
-        if 255 < byte {
-            return Spelled {
-                row: row::empty(),
-                bad: at,
-            };
-        }
-        row::store(&mut text, len, byte as u8);
-        len += 1;
-        at += item.width;
-    }
-    Spelled {
-        row: Row { codes: text, len },
-        bad: n,
+        len,
+        bad: DataPlace(n),
+        sum,
     }
 }

@@ -2,7 +2,6 @@
 -- other symbology gets them; and 13 belongs to job records. (Reading has no 5, 6 and 13, and drawing no 11 and 12: Order.antt, the lists'
 -- numbers.)
 --
---   Reached, first-reached    the first check that applies has number n: none before it applies, and it does
 --   five-alone       drawing answers 5 in Interleaved alone: elsewhere no even count is asked for
 --   six-alone        drawing answers 6 in full ASCII alone: elsewhere a byte draws one character, so the drawn ones fit the room
 --   no-thirteen      plain data never get 13: no byte stands behind them
@@ -11,107 +10,75 @@
 --
 -- Assumes nothing.
 use mathlib.Core.Path.{_≡_, refl, sym, _∙_}
-use mathlib.Core.Logic.{_≢_, _⊎_, inl, inr}
+use mathlib.Core.Logic.{_≢_}
 use mathlib.Core.Bool.{Bool, true, false, _&&_, not}
 use mathlib.Core.List.{List, [], _∷_}
 use Prim.Native.Nat.{ℕ, zero, suc, _+_, _-_, _<_, _≤_}
 use native.Mathlib.Omega.{arith}
 use native.Mathlib.Decide.{ℕ-discrete}
 use lib.Dec.{eqb, ltb, leb}
-use lib.ListN.{length, take, length-append}
+use lib.ListN.{length, take}
 use lib.Seq.{length-take-le}
-use borrow.Author.Tests.{eqb-true, eqb-false, ne-eqb, ltb-true, lt-ltb, leb-true, not-false}
+use borrow.Author.Tests.{eqb-true, eq-eqb, ne-eqb, ltb-true, lt-ltb, leb-true, not-false}
 use Rattle.laws.specs.Search.{pick}
 use Rattle.laws.specs.Units.{Reading, found, stopped}
-use Rattle.laws.specs.Spelling.{Coder, spell, byteFor, gave, unspell}
+use Rattle.laws.specs.Spelling.{Place, ends, stands, isEnd, fitting, Coder, spell, byteFor, gave, unspell}
+use Rattle.laws.specs.Rules.{checkedOf}
 use Rattle.laws.proofs.Finite.{both-left, both-right}
-use Rattle.laws.proofs.Spelling.{Drawn, none, alone, pair, spell-same, below-split}
-use Rattle.words.specs.declared.Answer.{Answer}
+use Rattle.laws.proofs.Spelling.{spell-same, below-split}
+use Rattle.laws.proofs.Rules.{checked-long}
 use Rattle.words.specs.Said.{saidOf}
+use Rattle.words.specs.Order.{gives, turned}
+use Rattle.words.proofs.Order.{none-on, Reached, first-reached, hit}
 use Rattle.tables.specs.Alphabet.{size}
 use Rattle.tables.specs.Code39.{chars39, alphabet39}
 use Rattle.tables.specs.Codabar.{table41, alphabetCodabar}
 use Rattle.tables.specs.TwoOfFive.{table44, alphabetDigits}
-use Rattle.rows.specs.Limits.{offered, holds}
-use Rattle.rows.specs.Symbologies.{Symbology, symbologies, symbologyOf}
-use Rattle.rows.specs.Rows.{gives, bodyOf, ending, headOf, added}
-use Rattle.rows.proofs.Coders.{byte-small, Single, alone39, alone-digits, placed-in, alone-codabar}
-use Rattle.rows.proofs.Proper.{Counts, proper}
-use Rattle.rows.proofs.Numbers.{others, unshifted, only-five}
-use Rattle.rows.proofs.Undo.{held, empty-rest}
-use Rattle.units.specs.Laid.{allowed, allAllowed, ready}
-use Rattle.units.proofs.Ready.{ready-allowed, below-allowed, ready-below, no-codabar}
-use Rattle.reads.specs.Seen.{countOf, unlike, seen, rowSeen}
-use Rattle.reads.proofs.Exact.{seen-drawn}
-use Rattle.strip.specs.Drawing.{drawField}
-use Rattle.strip.specs.Reading.{readStrip}
-use Rattle.strip.specs.Order.{Check, firstOf, stops, stopAt, finds, unitsRead, rowsRead, rowRead, itemsRead, rowDrawn, drawingChecks, drawnAnswer, readingChecks, handedAnswer}
-use Rattle.strip.proofs.Order.{shown-picks, draw-first, read-first}
-
--- ---- which check was the first
-
--- one check, by whether its number is the one: it applies, or it does not and the rest is as said
-abbrev Here : Bool → Bool → Type 0 → Type 0
-Here true applies rest = (applies ≡ true) ⊎ ((applies ≡ false) × rest)
-Here false applies rest = (applies ≡ false) × rest
-
-abbrev Reached : ℕ → List Check → Type 0
-Reached n [] = ⊥
-Reached n (c ∷ cs) = Here (eqb (saidOf (c .answer) .number) n) (c .applies) (Reached n cs)
-
-reached-step : (t b : Bool) (a w : Answer) (n : ℕ) (R : Type 0) → eqb (saidOf a .number) n ≡ t → (saidOf w .number ≡ n → R) → saidOf (pick b a w) .number ≡ n → Here t b R
-reached-step true true a w n R q f e = inl refl
-reached-step true false a w n R q f e = inr (refl, f e)
-reached-step false true a w n R q f e = absurd (eqb-false (saidOf a .number) n q e)
-reached-step false false a w n R q f e = (refl, f e)
-
-first-reached : (n : ℕ) (cs : List Check) (z : Answer) → saidOf z .number ≢ n → saidOf (firstOf cs z) .number ≡ n → Reached n cs
-first-reached n [] z h e = h e
-first-reached n (c ∷ cs) z h e =
-    reached-step (eqb (saidOf (c .answer) .number) n) (c .applies) (c .answer) (firstOf cs z) n (Reached n cs) refl (first-reached n cs z h) e
-
--- no later check has the number
-hit : {b : Bool} {R : Type 0} → (R → ⊥) → (b ≡ true) ⊎ ((b ≡ false) × R) → b ≡ true
-hit f (inl e) = e
-hit f (inr r) = absurd (f (r .1))
+use Rattle.symbologies.specs.Limits.{offered, holds, added}
+use Rattle.symbologies.specs.Coders.{plain, codabarCoder}
+use Rattle.symbologies.specs.Symbologies.{Symbology, symbologies, symbologyOf}
+use Rattle.symbologies.specs.Rows.{stops, stopAt, finds, spelled, rowDrawn, charsRead, unspelled}
+use Rattle.symbologies.specs.Strips.{allAllowed, ready, rowsRead, rowRead, seenChecks, rowSeen}
+use Rattle.symbologies.proofs.Coders.{byte-small, Single, alone39, alone-digits, placed-in, alone-codabar}
+use Rattle.symbologies.proofs.Asked.{Counts}
+use Rattle.symbologies.proofs.Numbers.{Digits, others, only-five, only-seven}
+use Rattle.symbologies.proofs.Proper.{proper, single, last-place}
+use Rattle.symbologies.proofs.Undo.{held, empty-rest}
+use Rattle.symbologies.proofs.Ready.{ready-counted, ready-allowed, below-allowed, ready-below, no-codabar}
+use Rattle.symbologies.proofs.Counted.{counted-some}
+use Rattle.symbologies.proofs.Plain.{chars-front}
+use Rattle.symbologies.proofs.Exact.{seen-drawn}
+use Rattle.strip.specs.Drawing.{drawField, drawingChecks, drawnAnswer}
+use Rattle.strip.specs.Reading.{readStrip, readingChecks, handedAnswer}
+use Rattle.strip.proofs.Order.{draw-first, read-first}
 
 -- ---- drawing
 
--- outside full ASCII no character begins a pair
-single : (s : ℕ) → (s ≡ 2 → ⊥) → Single (symbologyOf s .coder)
-single s n end b = go (proper s .valid end b)
+-- outside full ASCII there are no more characters than bytes
+spelled-few : (k : Coder) → Single k → (d : List ℕ) → length (finds (spell k true 0 d)) ≤ length d
+spelled-few k u d = go (spell k true 0 d) refl
   where
-    go : Drawn (symbologyOf s .coder) end b → length (symbologyOf s .coder .drawn end b) ≤ 1
-    go (none e) = rw e (omega arith)
-    go (alone c e f o l) = rw e (omega arith)
-    go (pair c d e f o l) = let x : _≡_ {A = Bool} true false = sym f ∙ unshifted s c n in let z : _≡_ {A = ℕ} 0 1 = cc in absurd (omega arith)
-
--- and so there are no more characters than bytes
-spelled-few : (k : Coder) → Single k → (body : List ℕ) → length (finds (spell k true 0 body)) ≤ length body
-spelled-few k u body = go (spell k true 0 body) refl
-  where
-    go : (z : Reading) → spell k true 0 body ≡ z → length (finds z) ≤ length body
-    go (found h) e = omega (arith, spell-same k u body h true 0 e)
+    go : (z : Reading) → spell k true 0 d ≡ z → length (finds z) ≤ length d
+    go (found h) e = omega (arith, spell-same k u d h true 0 e)
     go (stopped i) e = omega arith
 
--- the bytes that are spelled, and what is drawn behind them
-row-few : (y : Symbology) (m : ℕ) (d h : List ℕ) → m < 3 → 0 < length d → length (bodyOf m d) + length (ending y m d h) ≤ length d + added m
-row-few y zero d h l k = omega arith
-row-few y (suc zero) d h l k = omega (arith, length-take-le (length d - 1) d (omega arith))
-row-few y (suc (suc zero)) d h l k = omega arith
-row-few y (suc (suc (suc m))) d h l k = absurd (omega arith)
+-- and the check that mode 2 adds
+row-few : (s m : ℕ) (h : List ℕ) → length (pick (eqb m 2) (checkedOf (symbologyOf s .rule) h) h) ≤ length h + added m
+row-few s m h = go (ℕ-discrete m 2)
+  where
+    go : Dec (m ≡ 2) → length (pick (eqb m 2) (checkedOf (symbologyOf s .rule) h) h) ≤ length h + added m
+    go (yes q) = rw (eq-eqb m 2 q) (omega (arith, checked-long (symbologyOf s .rule) h (omega (arith, last-place s))))
+    go (no q) = rw (ne-eqb m 2 q) (omega arith)
 
 drawn-fits : (s m count : ℕ) (field : List ℕ) → (s ≡ 2 → ⊥) → offered (symbologyOf s .limits) m ≡ true
-    → (holds (symbologyOf s .limits) m count && leb count (length field)) ≡ true → length (rowDrawn s m (take count field)) ≤ symbologyOf s .room
+    → (holds (symbologyOf s .limits) m count && leb count (length field)) ≡ true → length (rowDrawn (symbologyOf s) m (take count field)) ≤ symbologyOf s .limits .room
 drawn-fits s m count field n o t =
     let y : Symbology = symbologyOf s in
     let d : List ℕ = take count field in
-    let h : List ℕ = finds (spell (y .coder) true 0 (bodyOf m d)) in
     let l : length d ≡ count = length-take-le count field (leb-true count (length field) (both-right (holds (y .limits) m count) _ t)) in
     let b = held (y .limits) m count (both-left (holds (y .limits) m count) (leb count (length field)) t) in
     let c : Counts y m = proper s .counts m o in
-    rw length-append
-    (omega (arith, spelled-few (y .coder) (single s n) (bodyOf m d), row-few y m d h (c .mode) (omega (arith, c .some, b .0)), c .cap, b .1))
+    omega (arith, spelled-few (y .coder m) (single s n m) d, row-few s m (finds (spelled y m d)), c .cap, b .1)
 
 module _ (s m count : ℕ) (field out : List ℕ) where
   drawing-reached : (n : ℕ) → n ≢ 0 → saidOf (drawField s m count field out .answer) .number ≡ n → Reached n (drawingChecks s m count field out)
@@ -124,9 +91,9 @@ module _ (s m count : ℕ) (field out : List ℕ) where
   unfolding drawingChecks
   five-alone e =
       let w : Reached 5 (drawingChecks s m count field out) = drawing-reached 5 (omega arith) e in
-      go (both-left (symbologyOf s .even) _ (hit (λ r. r .1 .1 .1) (w .1 .1 .1 .1 .1))) (ℕ-discrete s 5)
+      go (both-left (symbologyOf s .limits .even) _ (hit (λ r. r .1 .1 .1) (w .1 .1 .1 .1 .1))) (ℕ-discrete s 5)
     where
-      go : symbologyOf s .even ≡ true → Dec (s ≡ 5) → s ≡ 5
+      go : symbologyOf s .limits .even ≡ true → Dec (s ≡ 5) → s ≡ 5
       go f (yes q) = q
       go f (no q) = let x : _≡_ {A = Bool} true false = sym f ∙ only-five s q in let z : _≡_ {A = ℕ} 0 1 = cc in absurd (omega arith)
 
@@ -134,10 +101,10 @@ module _ (s m count : ℕ) (field out : List ℕ) where
   unfolding drawingChecks
   six-alone e =
       let w : Reached 6 (drawingChecks s m count field out) = drawing-reached 6 (omega arith) e in
-      let over : symbologyOf s .room < length (rowDrawn s m (take count field)) = ltb-true _ _ (hit (λ r. r .1 .1) (w .1 .1 .1 .1 .1 .1)) in
+      let over : symbologyOf s .limits .room < length (rowDrawn (symbologyOf s) m (take count field)) = ltb-true _ _ (hit (λ r. r .1 .1) (w .1 .1 .1 .1 .1 .1)) in
       go over (not-false _ (w .1 .0)) (not-false _ (w .1 .1 .0)) (ℕ-discrete s 2)
     where
-      go : symbologyOf s .room < length (rowDrawn s m (take count field)) → offered (symbologyOf s .limits) m ≡ true
+      go : symbologyOf s .limits .room < length (rowDrawn (symbologyOf s) m (take count field)) → offered (symbologyOf s .limits) m ≡ true
           → (holds (symbologyOf s .limits) m count && leb count (length field)) ≡ true → Dec (s ≡ 2) → s ≡ 2
       go over o h (yes q) = q
       go over o h (no q) = absurd (omega (arith, drawn-fits s m count field q o h))
@@ -152,38 +119,54 @@ no-thirteen s m d out e =
 
 -- ---- reading
 
--- outside full ASCII a character that may stand there is drawn by a byte
-drawn-by : (s : ℕ) → (s ≡ 2 → ⊥) → (end : Bool) (c : ℕ) → allowed s end c ≡ true → byteFor (symbologyOf s .coder) end (c ∷ []) < 256
-unfolding symbologyOf symbologies alphabet39 chars39 alphabetCodabar table41 alphabetDigits table44
-drawn-by zero n end c a = rw (alone-digits end c, a) (byte-small alphabetDigits refl c (ltb-true c 10 a))
-drawn-by (suc zero) n end c a = rw (alone39 end c, a) (byte-small alphabet39 refl c (ltb-true c 43 a))
-drawn-by (suc (suc zero)) n end c a = absurd (n refl)
-drawn-by (suc (suc (suc zero))) n end c a = rw (alone-codabar end c, a) (byte-small alphabetCodabar refl c (placed-in end c a))
-drawn-by (suc (suc (suc (suc s)))) n end c a =
-    let d = others (suc (suc (suc (suc s)))) (omega arith) (omega arith) (omega arith) in
-    let b : ltb c 10 ≡ true = rw (ne-eqb (suc (suc (suc (suc s)))) 3 (omega arith), d .alphabet) at a in
-    rw (d .coder, alone-digits end c, b) (byte-small alphabetDigits refl c (ltb-true c 10 b))
+-- outside full ASCII a character that may stand there is drawn by a byte, and begins no pair
+pub record Lone (y : Symbology) : Type 0 where
+  pub byte : (m : ℕ) (p : Place) (c : ℕ) → y .allowed p c ≡ true → byteFor (y .coder m) p (c ∷ []) < 256
+  pub shift : (m : ℕ) (end : Bool) (c : ℕ) → y .coder m .shift end c ≡ false
+
+lone-39 : Lone (symbologyOf 1)
+unfolding symbologyOf symbologies alphabet39 chars39 plain
+lone-39 = record { byte = λ m p c a. rw (alone39 p c, a) (byte-small alphabet39 refl c (ltb-true c 43 a)); shift = λ m end c. refl }
+
+lone-codabar : Lone (symbologyOf 3)
+unfolding symbologyOf symbologies alphabetCodabar table41 codabarCoder
+lone-codabar = record { byte = λ m p c a. rw (alone-codabar p c, a) (byte-small alphabetCodabar refl c (placed-in (isEnd p) c a)); shift = λ m end c. refl }
+
+lone-digits : (y : Symbology) → Digits y → Lone y
+unfolding alphabetDigits table44 plain
+lone-digits y d = record {
+  byte = λ m p c a. let b : ltb c 10 ≡ true = rw (d .allowed) at a in rw (d .coder, alone-digits p c, b) (byte-small alphabetDigits refl c (ltb-true c 10 b));
+  shift = λ m end c. rw (d .coder);
+}
+
+lone : (s : ℕ) → (s ≡ 2 → ⊥) → Lone (symbologyOf s)
+lone s n = go (ℕ-discrete s 1) (ℕ-discrete s 3)
+  where
+    go : Dec (s ≡ 1) → Dec (s ≡ 3) → Lone (symbologyOf s)
+    go (yes e) f = rw e lone-39
+    go (no e) (yes f) = rw f lone-codabar
+    go (no e) (no f) = lone-digits (symbologyOf s) (others s e n f)
 
 -- so reading characters that may stand where they do never stops
 gave-on : (b at i : ℕ) (z : Reading) → b < 256 → (z ≡ stopped i → ⊥) → gave at b z ≡ stopped i → ⊥
 gave-on b at i (found d) h f e = let q : found (b ∷ d) ≡ stopped i = rw (lt-ltb b 256 h) at e in let x : _≡_ {A = ℕ} 0 1 = cc in omega arith
 gave-on b at i (stopped j) h f e = f (rw (lt-ltb b 256 h) at e)
 
-never-stops : (s : ℕ) → (s ≡ 2 → ⊥) → (r : List ℕ) (start : Bool) (at i : ℕ) → allAllowed s start r ≡ true → unspell (symbologyOf s .coder) start at r ≡ stopped i → ⊥
-never-stops s n [] start at i a e = let x : _≡_ {A = ℕ} 0 1 = cc in omega arith
-never-stops s n (c ∷ []) start at i a e =
-    gave-on _ at i (found []) (drawn-by s n true c (both-left (allowed s true c) true a)) (λ q. let x : _≡_ {A = ℕ} 0 1 = cc in omega arith) e
-never-stops s n (c ∷ x ∷ cs) start at i a e =
-    gave-on _ at i _ (drawn-by s n start c (both-left (allowed s start c) (allAllowed s false (x ∷ cs)) a))
-    (never-stops s n (x ∷ cs) false (suc at) i (both-right (allowed s start c) (allAllowed s false (x ∷ cs)) a)) (rw (unshifted s c n) at e)
+never-stops : (y : Symbology) → Lone y → (m : ℕ) (r : List ℕ) (start : Bool) (at i : ℕ) → fitting (y .allowed) start r ≡ true → unspell (y .coder m) start at r ≡ stopped i → ⊥
+never-stops y o m [] start at i a e = let x : _≡_ {A = ℕ} 0 1 = cc in omega arith
+never-stops y o m (c ∷ []) start at i a e =
+    gave-on _ at i (found []) (o .byte m (stands start []) c (both-left (y .allowed (stands start []) c) true a)) (λ q. let x : _≡_ {A = ℕ} 0 1 = cc in omega arith) e
+never-stops y o m (c ∷ x ∷ cs) start at i a e =
+    gave-on _ at i _ (o .byte m (stands start (x ∷ cs)) c (both-left (y .allowed (stands start (x ∷ cs)) c) (fitting (y .allowed) false (x ∷ cs)) a))
+    (never-stops y o m (x ∷ cs) false (suc at) i (both-right (y .allowed (stands start (x ∷ cs)) c) (fitting (y .allowed) false (x ∷ cs)) a)) (rw (o .shift m (ends cs) c) at e)
 
--- the characters before the check are allowed too: where there is a check, the place does not matter
-head-allowed : (s m : ℕ) (r : List ℕ) → offered (symbologyOf s .limits) m ≡ true → ready s r ≡ true → allAllowed s true (headOf m r) ≡ true
-head-allowed s zero r o h = ready-allowed s r h
-head-allowed s (suc m) r o h =
+-- the characters that spell the data are allowed too: where there is a check, the place does not matter
+read-allowed : (s m : ℕ) (r : List ℕ) → offered (symbologyOf s .limits) m ≡ true → ready s r ≡ true → 0 < length r → allAllowed s true (charsRead (symbologyOf s) m r) ≡ true
+read-allowed s zero r o h k = ready-allowed s r h
+read-allowed s (suc m) r o h k =
     let n : eqb s 3 ≡ false = no-codabar s (suc m) o (omega arith) in
-    rw (ne-eqb (suc m) 0 (omega arith))
-    (below-allowed s n true (take (length r - 1) r) (below-split (size (symbologyOf s .alphabet)) (length r - 1) r (ready-below s r n h) .0))
+    rw (chars-front s (suc m) r k)
+    (below-allowed s n true (take (length r - added (suc m)) r) (below-split (size (symbologyOf s .alphabet)) (length r - added (suc m)) r (ready-below s r n h) .0))
 
 stopped-at : (z : Reading) → stops z ≡ true → z ≡ stopped (stopAt z)
 stopped-at (stopped i) e = refl
@@ -198,19 +181,24 @@ module _ (s m : ℕ) (t out : List ℕ) where
   unfolding readingChecks
   eleven-alone e =
       let w : Reached 11 (readingChecks s m t out) = reading-reached 11 (omega arith) e in
-      eqb-true s 7 (both-left (eqb s 7) _ (hit (λ r. r .1 .1 .1) (w .1 .1 .1 .1)))
+      go (hit (λ r. r .1 .1 .1) (w .1 .1 .1 .1)) (ℕ-discrete s 7)
+    where
+      go : symbologyOf s .shows .unlike (rowsRead s t) ≡ true → Dec (s ≡ 7) → s ≡ 7
+      go f (yes q) = q
+      go f (no q) = let x : _≡_ {A = Bool} true false = sym f ∙ only-seven s q (rowsRead s t) in let z : _≡_ {A = ℕ} 0 1 = cc in absurd (omega arith)
 
   pub twelve-alone : saidOf (readStrip s m t out .answer) .number ≡ 12 → s ≡ 2
   unfolding readingChecks
   twelve-alone e =
       let w : Reached 12 (readingChecks s m t out) = reading-reached 12 (omega arith) e in
-      let shows : rowSeen s m t ≡ gives (rowRead s m t) = row-shown (w .0) (w .1 .0) (w .1 .1 .0) (w .1 .1 .1 .0) (w .1 .1 .1 .1 .0) in
-      go (not-false _ (w .1 .0)) (seen-drawn s m t (rowRead s m t) shows .0) (hit (λ r. r .1 .1) (w .1 .1 .1 .1 .1)) (ℕ-discrete s 2)
+      let shows : rowSeen s m t ≡ gives (rowRead s t)
+      = unfold rowSeen in none-on turned (seenChecks s m t) _ (w .0, (w .1 .0, (w .1 .1 .0, (w .1 .1 .1 .0, (w .1 .1 .1 .1 .0, tt))))) in
+      let h : ready s (rowRead s t) ≡ true = seen-drawn s m t (rowRead s t) shows .0 in
+      go (not-false _ (w .1 .0)) h (counted-some s (length (rowRead s t)) (ready-counted s (rowRead s t) h)) (hit (λ r. r .1 .1) (w .1 .1 .1 .1 .1)) (ℕ-discrete s 2)
     where
-      row-shown : not (symbologyOf s .limits .known) ≡ false → not (offered (symbologyOf s .limits) m) ≡ false → not (ltb (countOf s m (length t)) 35) ≡ false
-          → stops (unitsRead s m t) ≡ false → unlike s (rowsRead s m t) ≡ false → rowSeen s m t ≡ gives (rowRead s m t)
-      row-shown a b c d f = unfold rowSeen seen in rw (a, b, not-false (ltb (countOf s m (length t)) 35) c, shown-picks s (countOf s m (length t)) (unitsRead s m t), d, f)
-
-      go : offered (symbologyOf s .limits) m ≡ true → ready s (rowRead s m t) ≡ true → stops (itemsRead s m t) ≡ true → Dec (s ≡ 2) → s ≡ 2
-      go o h f (yes q) = q
-      go o h f (no q) = absurd (never-stops s q (headOf m (rowRead s m t)) true 0 _ (head-allowed s m (rowRead s m t) o h) (stopped-at (itemsRead s m t) f))
+      go : offered (symbologyOf s .limits) m ≡ true → ready s (rowRead s t) ≡ true → 0 < length (rowRead s t) → stops (unspelled (symbologyOf s) m (rowRead s t)) ≡ true → Dec (s ≡ 2) → s ≡ 2
+      go o h k f (yes q) = q
+      go o h k f (no q) =
+          absurd
+          (never-stops (symbologyOf s) (lone s q) m (charsRead (symbologyOf s) m (rowRead s t)) true 0 _ (read-allowed s m (rowRead s t) o h k)
+          (stopped-at (unspelled (symbologyOf s) m (rowRead s t)) f))

@@ -11,14 +11,15 @@ use Rattle.tables.specs.FullAscii.{drawing, ranges}
 use Rattle.tables.specs.Code39.{alphabet39, chars39}
 use Rattle.tables.specs.Codabar.{alphabetCodabar, table41, innerRows, letterRows}
 use Rattle.tables.specs.TwoOfFive.{alphabetDigits, table44, digitRows, industrialRows, industrialStart, industrialStop, interleavedRows, interleavedStart, interleavedStop, matrixRows, matrixEnds}
-use Rattle.rows.specs.Coders.{plain, codabarCoder, fullCoder}
-use Rattle.rows.specs.Checks.{checkOf, by43, right10}
-use Rattle.rows.specs.Symbologies.{symbologyOf, symbologies}
-use Rattle.rows.specs.Rows.{drawnRow, rowOf, rowOfField}
-use Rattle.units.specs.Plans.{codabar, industrial, interleaved, matrix, plans, planOf, unitsOf, stripOf}
-use Rattle.units.specs.Totals.{totals, elementsOf, modulesOf}
+use Rattle.laws.specs.Rules.{checkOf}
+use Rattle.symbologies.specs.Coders.{plain, codabarCoder, fullCoder}
+use Rattle.symbologies.specs.Checks.{by43, right10}
+use Rattle.symbologies.specs.Parts.{lettering, industrial, interleaved, matrix}
+use Rattle.symbologies.specs.Symbologies.{symbologyOf, symbologies}
+use Rattle.symbologies.specs.Rows.{rowOf, rowOfField}
+use Rattle.symbologies.specs.Strips.{elementsOf, modulesOf, unitsOf, stripOf}
 use Rattle.strip.specs.Bench.{bench, allHold}
 
 pub bench-holds : allHold bench ≡ true
-unfolding bench rowOf rowOfField drawnRow symbologyOf symbologies valueOf byteOf rowsOf plain codabarCoder fullCoder checkOf by43 right10 indexIn drawing ranges alphabet39 chars39 alphabetCodabar table41 innerRows letterRows alphabetDigits table44 digitRows industrialRows industrialStart industrialStop interleavedRows interleavedStart interleavedStop matrixRows matrixEnds codabar industrial interleaved matrix plans planOf unitsOf stripOf totals elementsOf modulesOf
+unfolding bench rowOf rowOfField symbologyOf symbologies valueOf byteOf rowsOf plain codabarCoder fullCoder checkOf by43 right10 indexIn drawing ranges alphabet39 chars39 alphabetCodabar table41 innerRows letterRows alphabetDigits table44 digitRows industrialRows industrialStart industrialStop interleavedRows interleavedStart interleavedStop matrixRows matrixEnds lettering industrial interleaved matrix unitsOf stripOf elementsOf modulesOf
 bench-holds = refl

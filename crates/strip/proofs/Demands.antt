@@ -33,23 +33,19 @@ use Rattle.laws.specs.One.{One, OneBuffer}
 use Rattle.words.specs.declared.Answer.{Answer}
 use Rattle.words.specs.declared.Answer.the-variants.{Drawn, HandedBack, BadCheck}
 use Rattle.words.specs.Said.{saidOf}
+use Rattle.words.specs.Order.{firstOf, gives, charPlace, byteCount, elementCount, moduleCount}
 use Rattle.tables.specs.Alphabet.{size}
-use Rattle.rows.specs.Symbologies.{symbologyOf}
-use Rattle.rows.specs.Rows.{gives, charPlace, rowOf}
-use Rattle.rows.specs.Held.{byteCount}
-use Rattle.units.specs.Plans.{stripOf}
-use Rattle.units.specs.Totals.{elementsOf, modulesOf}
-use Rattle.units.specs.Laid.{elementCount, moduleCount}
+use Rattle.symbologies.specs.Symbologies.{symbologyOf}
+use Rattle.symbologies.specs.Rows.{rowOf}
+use Rattle.symbologies.specs.Strips.{elementsOf, modulesOf, stripOf}
 use Rattle.strip.specs.Bench.{charsOf}
-use Rattle.strip.specs.Drawing.{Call, drawField, drawData}
-use Rattle.strip.specs.Reading.{dataSeen, readStrip}
-use Rattle.strip.specs.Order.{firstOf, drawingChecks, drawnAnswer, readingChecks, handedAnswer}
+use Rattle.strip.specs.Drawing.{Call, drawingChecks, drawField, drawData, drawnAnswer}
+use Rattle.strip.specs.Reading.{readingChecks, readStrip, handedAnswer}
 use Rattle.strip.proofs.Order.{draw-first, read-first}
 use Rattle.strip.proofs.Alone.{five-alone, six-alone, no-thirteen, eleven-alone, twelve-alone}
-use Rattle.strip.proofs.Requests.{Draws, draw-whole, drawn-is, draw-keeps, data-keeps, same-bytes, read-whole, turned-always, one-element, one-character, read-keeps}
+use Rattle.strip.proofs.Requests.{Draws, draw-whole, drawn-is, draw-keeps, data-keeps, same-bytes, read-whole, read-drawn, one-element, one-character, read-keeps}
 use Rattle.strip.proofs.Exchanges.{Exchanged, one, other, Named, digits-valid, before-valid, last-valid, handed-back, turned-back, full-before}
 use Rattle.strip.proofs.Only as Only
-use Rattle.strip.proofs.Honest.{seen-honest}
 use Rattle.strip.proofs.draw.Reads as Draw
 use Rattle.strip.proofs.draw.Kinds as DrawKinds
 use Rattle.strip.proofs.draw_field.Reads as DrawField
@@ -149,9 +145,9 @@ module _ (c : Allowed Draw.Learnt) where
   as-field = c .allows .0 ∙ ap (λ (z : Call). z .answer) (data-field (symbology c) (mode c) (given c) (room c))
 
   -- demand 1: "Bad input is turned away with the number and place that document 01's table gives, in its order": the answer is that of
-  -- the first of `drawingChecks` (specs/Order.antt: 1, 2, 3, 13, 4, 5, 6, 7, 8) that applies, and 0 if none does
+  -- the first of `drawingChecks` (specs/Drawing.antt: 1, 2, 3, 13, 4, 5, 6, 7, 8) that applies, and 0 if none does
   pub draw-in-order : c .answer
-      ≡ firstOf (drawingChecks (symbology c) (mode c) (length (given c)) (given c) (room c)) (drawnAnswer (symbology c) (mode c) (take (length (given c)) (given c)))
+      ≡ firstOf (λ a. a) (drawingChecks (symbology c) (mode c) (length (given c)) (given c) (room c)) (drawnAnswer (symbology c) (mode c) (take (length (given c)) (given c)))
   draw-in-order = as-field ∙ draw-first (symbology c) (mode c) (length (given c)) (given c) (room c)
 
   -- and what that table words for one symbology no other gets: 5 is Interleaved's
@@ -189,7 +185,7 @@ module _ (c : Allowed Draw.Learnt) where
 
 module _ (c : AllowedField) where
   -- demand 1, of a job record's field: the same order
-  pub field-in-order : c .answer ≡ firstOf (drawingChecks (kind c) (mode-in c) (count c) (field c) (room-in c)) (drawnAnswer (kind c) (mode-in c) (take (count c) (field c)))
+  pub field-in-order : c .answer ≡ firstOf (λ a. a) (drawingChecks (kind c) (mode-in c) (count c) (field c) (room-in c)) (drawnAnswer (kind c) (mode-in c) (take (count c) (field c)))
   field-in-order = c .allows .0 ∙ draw-first (kind c) (mode-in c) (count c) (field c) (room-in c)
 
   -- 5 is Interleaved's
@@ -210,15 +206,9 @@ module _ (c : AllowedField) where
 
 -- ---- the call `read`
 
-refused-is : (s m : ℕ) (t out : List ℕ) → ((d : List ℕ) → Draws s m d t → ⊥) → number (readStrip s m t out .answer) ≢ 0
-unfolding readStrip
-refused-is s m t out n =
-    let w : (a : Answer) × (dataSeen s m t ≡ _) = turned-always s m t n in
-    rw (w .1) (seen-honest s m t (w .0) (w .1))
-
 module _ (c : Allowed ReadStrip.Learnt) where
-  -- demand 1, of reading: the first of `readingChecks` (specs/Order.antt: 1, 2, 9, 10, 11, 12, 7, 8) that applies, and 0 if none does
-  pub read-in-order : c .answer ≡ firstOf (readingChecks (symbology c) (mode c) (given c) (room c)) (handedAnswer (symbology c) (mode c) (given c))
+  -- demand 1, of reading: the first of `readingChecks` (specs/Reading.antt: 1, 2, 9, 10, 11, 12, 7, 8) that applies, and 0 if none does
+  pub read-in-order : c .answer ≡ firstOf (λ a. a) (readingChecks (symbology c) (mode c) (given c) (room c)) (handedAnswer (symbology c) (mode c) (given c))
   read-in-order = c .allows .0 ∙ read-first (symbology c) (mode c) (given c) (room c)
 
   -- 11 is EAN-13's
@@ -242,7 +232,7 @@ module _ (c : Allowed ReadStrip.Learnt) where
 
   -- demand 2: "and turns a strip away exactly if no accepted request of that symbology and mode draws it."
   pub read-turns-away : ((d : List ℕ) → Draws (symbology c) (mode c) d (given c) → ⊥) → number (c .answer) ≢ 0
-  read-turns-away n = rw (c .allows .0) (refused-is (symbology c) (mode c) (given c) (room c) n)
+  read-turns-away n e = let w = read-drawn (symbology c) (mode c) (given c) (room c) (rw (c .allows .0) at e) in n (w .0) (w .1)
 
   -- and a strip that a request draws is turned away for want of room alone
   pub read-wants-room : number (c .answer) ≢ 0 → (d : List ℕ) → Draws (symbology c) (mode c) d (given c) → length d ≤ length (room c) → ⊥

@@ -9,34 +9,40 @@
 -- Assumes nothing.
 use mathlib.Core.Path.{_≡_, refl, sym, ap, _∙_}
 use mathlib.Core.Logic.{_≢_, _↔_, _⊎_, inl, inr, Iff·trans}
-use mathlib.Core.Bool.{Bool, true, false}
-use mathlib.Core.List.{List, _++_}
+use mathlib.Core.Bool.{Bool, true, false, _&&_, not}
+use mathlib.Core.List.{List, _∷_, [], _++_}
 use Prim.Native.Nat.{ℕ, suc, _-_, _<_, _≤_}
 use native.Mathlib.Omega.{arith}
-use lib.ListN.{length, getD, take, drop}
-use borrow.Author.Tests.{le-ltb}
+use lib.Dec.{eqb}
+use lib.ListN.{length, getD, take, drop, length-map}
+use lib.Seq.{length-take-le}
+use borrow.Author.Tests.{le-ltb, ne-eqb}
 use Rattle.laws.specs.Search.{pick}
 use Rattle.laws.specs.Elements.{sum}
 use Rattle.laws.specs.Units.{Reading, found, stopped}
-use Rattle.laws.specs.Spelling.{unspell}
+use Rattle.laws.specs.Rules.{passes}
 use Rattle.laws.specs.Neighbours.{swapped, difference}
-use Rattle.laws.proofs.Neighbours.{length-swapped, swapped-same}
-use Rattle.words.specs.declared.Answer.the-variants.{HandedBack, BadCheck}
+use Rattle.laws.proofs.Neighbours.{length-swapped, swapped-same, below-swapped}
+use Rattle.laws.proofs.Spelling.{Below, unspell-short}
+use Rattle.words.specs.declared.Answer.{Answer}
+use Rattle.words.specs.declared.Answer.the-variants.{HandedBack, BadCheck, NoExpansion}
 use Rattle.words.specs.Said.{saidOf}
-use Rattle.rows.specs.Checks.{passes}
-use Rattle.rows.specs.Symbologies.{symbologyOf}
-use Rattle.rows.specs.Rows.{gives, charPlace, wrongCheck, rowOf, headOf, kept, unspelled, readRow, dataOf}
-use Rattle.rows.specs.Held.{byteCount}
-use Rattle.rows.proofs.Undo.{undo}
-use Rattle.rows.proofs.Back.{kept-few}
-use Rattle.rows.proofs.Plain.{Plain, digits-are-plain, code39-is-plain}
-use Rattle.rows.proofs.Exchanges.{exchanged-below, exchanged-read, exchanged-long, digits-passes, before-passes, last-passes}
-use Rattle.units.specs.Plans.{stripOf}
-use Rattle.units.specs.Laid.{moduleCount}
+use Rattle.words.specs.Order.{Outcome, gives, turned, outcome, charPlace, byteCount, moduleCount}
+use Rattle.tables.specs.Alphabet.{size, byteOf}
+use Rattle.symbologies.specs.Limits.{added}
+use Rattle.symbologies.specs.Symbologies.{symbologyOf}
+use Rattle.symbologies.specs.Rows.{wrongAt, stops, stopAt, finds, rowOf, charsRead, unspelled, dataRead, dataChecks, dataOf}
+use Rattle.symbologies.specs.Strips.{stripOf}
+use Rattle.symbologies.proofs.Proper.{proper, undo, last-place}
+use Rattle.symbologies.proofs.Undo.{Reads, reads}
+use Rattle.symbologies.proofs.Within.{row-few}
+use Rattle.symbologies.proofs.Ready.{ready-below, no-codabar, drawn-ready}
+use Rattle.symbologies.proofs.Plain.{Plain, chars-front, plain-read, data-long, digits-are-plain, code39-is-plain}
+use Rattle.symbologies.proofs.Exchanges.{digits-passes, before-passes, last-passes}
 use Rattle.strip.specs.Bench.{charsOf}
 use Rattle.strip.specs.Drawing.{Call, refused}
 use Rattle.strip.specs.Reading.{dataSeen, handed, readStrip}
-use Rattle.strip.proofs.Requests.{Draws, read-exactly, read-whole, relaid-seen}
+use Rattle.strip.proofs.Requests.{Draws, seen-data, read-given, read-turned, read-exactly, read-whole, relaid-seen}
 
 -- the strip t is laid out anew from an accepted request's row, of which the drawn characters at `place` and behind it are exchanged; the check is
 -- the last of the row
@@ -63,49 +69,79 @@ zero-or : (b : Bool) (p q : Call) → saidOf (p .answer) .number ≡ 0 → saidO
 zero-or true p q e n = (λ f. refl, λ f. e)
 zero-or false p q e n = (λ f. absurd (n f), λ f. cc)
 
--- what is read passed its check
-read-passes : (b : Bool) (t out e q : List ℕ) → saidOf (handed t (pick b (gives e) (wrongCheck q)) out .answer) .number ≡ 0 → b ≡ true
-read-passes true t out e q f = refl
-read-passes false t out e q f = absurd (omega arith)
+-- a test that turns away, told as one that lets on
+turn : {A : Type 0} (b : Bool) (x y : A) → pick (not b) x y ≡ pick b y x
+turn true x y = refl
+turn false x y = refl
 
 module _ (s m : ℕ) (d t out : List ℕ) (x : Exchanged s m d t) (n : m ≢ 0) (l : length d ≤ length out) where
   abbrev row-swapped : List ℕ
   row-swapped = swapped (x .row) (x .place)
 
   abbrev passing : Bool
-  passing = passes (symbologyOf s .rule) m row-swapped
+  passing = passes (symbologyOf s .rule) row-swapped
 
-  accepted-read : dataOf s m (x .row) ≡ gives d
-  accepted-read = undo s m d (x .row) .0 (x .accepted)
+  accepted-read : Reads (symbologyOf s) m d (x .row)
+  accepted-read = reads s m d (x .row) (undo s m d (x .row) .0 (x .accepted))
 
-  exchanged-seen : dataSeen s m t ≡ readRow (symbologyOf s) m row-swapped
-  unfolding dataSeen
+  long-swapped : length row-swapped ≡ length (x .row)
+  long-swapped = length-swapped (x .row) (x .place)
+
+  some : 0 < length row-swapped
+  some = omega (arith, long-swapped, x .behind)
+
+  row-below : Below (size (symbologyOf s .alphabet)) (x .row)
+  row-below = ready-below s (x .row) (no-codabar s m (accepted-read .offers) n) (drawn-ready s m d (x .row) (x .accepted))
+
+  below : Below (size (symbologyOf s .alphabet)) row-swapped
+  below = below-swapped (size (symbologyOf s .alphabet)) (x .row) (x .place) (x .behind) row-below
+
+  abbrev wrong : Answer
+  wrong = BadCheck (charPlace (length (x .row) - 1))
+
+  wrong-at : wrongAt (symbologyOf s) row-swapped ≡ wrong
+  wrong-at = let e : length row-swapped - 1 - symbologyOf s .rule .behind ≡ length (x .row) - 1 = omega (arith, long-swapped, last-place s) in rw e
+
+  -- 12, 7, or the data: by what the characters spell
+  abbrev judged : Reading → Outcome
+  judged u = pick (stops u) (turned (NoExpansion (charPlace (stopAt u)))) (pick passing (gives (finds u)) (turned wrong))
+
+  exchanged-seen : dataSeen s m t ≡ judged (unspelled (symbologyOf s) m row-swapped)
   exchanged-seen =
-      rw (
-        x .anew,
-        relaid-seen s m d (x .row) row-swapped n (x .accepted) (length-swapped (x .row) (x .place)) (exchanged-below s m d (x .row) n accepted-read (x .place) (x .behind)),
-      )
+      let e : dataSeen s m t ≡ outcome (dataChecks (symbologyOf s) m row-swapped) (dataRead (symbologyOf s) m row-swapped)
+      = rw (x .anew) (seen-data s m (stripOf s row-swapped) row-swapped (relaid-seen s m d (x .row) row-swapped n (x .accepted) long-swapped below)) in
+      e ∙ rw (ne-eqb m 0 n, wrong-at, turn passing (turned wrong) (gives (dataRead (symbologyOf s) m row-swapped)))
 
   abbrev done : Call
   done = record { answer = HandedBack (byteCount (length d)) (moduleCount (sum t)); buffer = charsOf s (take (length d) row-swapped) ++ drop (length d) out }
 
-  abbrev wrong : Call
-  wrong = refused (BadCheck (charPlace (length (x .row) - 1))) out
+  abbrev turned-away : Call
+  turned-away = refused out wrong
 
-  data-seen : Plain s → dataSeen s m t ≡ pick passing (gives (charsOf s (take (length d) row-swapped))) (wrongCheck row-swapped)
-  data-seen plain = exchanged-seen ∙ exchanged-read s m d (x .row) n accepted-read (x .place) (x .behind) plain
+  -- a character is a byte: the first characters, as many as the data were
+  spells : Plain s → unspelled (symbologyOf s) m row-swapped ≡ found (charsOf s (take (length d) row-swapped))
+  spells plain =
+      let k : length row-swapped - added m ≡ length d = rw long-swapped (sym (data-long s m plain d (x .row) (omega (arith, x .behind)) row-below accepted-read)) in
+      rw (plain-read s m plain row-swapped some below, k)
 
-  call : Plain s → readStrip s m t out ≡ pick passing done wrong
-  unfolding readStrip
-  call plain = rw (data-seen plain) (go passing)
+  data-seen : Plain s → dataSeen s m t ≡ pick passing (gives (charsOf s (take (length d) row-swapped))) (turned wrong)
+  data-seen plain = exchanged-seen ∙ rw (spells plain)
+
+  as-long : Plain s → length (charsOf s (take (length d) row-swapped)) ≡ length d
+  as-long plain =
+      length-map (take (length d) row-swapped) (byteOf (symbologyOf s .alphabet))
+      ∙ length-take-le (length d) row-swapped (omega (arith, long-swapped, data-long s m plain d (x .row) (omega (arith, x .behind)) row-below accepted-read))
+
+  call : Plain s → readStrip s m t out ≡ pick passing done turned-away
+  call plain = go passing (data-seen plain)
     where
-      go : (b : Bool) → handed t (pick b (gives (charsOf s (take (length d) row-swapped))) (wrongCheck row-swapped)) out ≡ pick b done wrong
-      go true = rw (exchanged-long s m d (x .row) n accepted-read (x .place) (x .behind) plain, le-ltb (length out) (length d) l)
-      go false = rw (length-swapped (x .row) (x .place))
+      go : (b : Bool) → dataSeen s m t ≡ pick b (gives (charsOf s (take (length d) row-swapped))) (turned wrong) → readStrip s m t out ≡ pick b done turned-away
+      go true e = read-given s m t out _ e ∙ rw (as-long plain, le-ltb (length out) (length d) l)
+      go false e = read-turned s m t out wrong e
 
   -- an answer is 0 exactly if the check passes
   valid : Plain s → (saidOf (readStrip s m t out .answer) .number ≡ 0) ↔ (passing ≡ true)
-  valid plain = rw (call plain) (zero-or passing done wrong refl (omega arith))
+  valid plain = rw (call plain) (zero-or passing done turned-away refl (omega arith))
 
   pub digits-valid : 4 ≤ s → s ≤ 9 → (saidOf (readStrip s m t out .answer) .number ≡ 0) ↔ ((one x ≡ other x) ⊎ (difference (one x) (other x) ≡ 5))
   digits-valid lo hi =
@@ -116,25 +152,28 @@ module _ (s m : ℕ) (d t out : List ℕ) (x : Exchanged s m d t) (n : m ≢ 0) 
 
   -- in full ASCII too what is read has its check
   zero-passes : saidOf (readStrip s m t out .answer) .number ≡ 0 → passing ≡ true
-  unfolding readStrip readRow
-  zero-passes e = go (unspell (symbologyOf s .coder) true 0 (headOf m row-swapped)) (rw exchanged-seen at e)
+  zero-passes e = go (unspelled (symbologyOf s) m row-swapped) passing refl exchanged-seen
     where
-      go : (z : Reading) → saidOf (handed t (unspelled (symbologyOf s) m row-swapped z) out .answer) .number ≡ 0 → passing ≡ true
-      go (found b) f = read-passes passing t out _ row-swapped f
-      go (stopped i) f = absurd (omega arith)
+      go : (u : Reading) (b : Bool) → passing ≡ b → dataSeen s m t ≡ pick (stops u) (turned (NoExpansion (charPlace (stopAt u)))) (pick b (gives (finds u)) (turned wrong)) → passing ≡ true
+      go u true p f = p
+      go (found c) false p f = absurd (let q = rw (read-turned s m t out wrong f) at e in omega arith)
+      go (stopped i) false p f = absurd (let q = rw (read-turned s m t out (NoExpansion (charPlace i)) f) at e in omega arith)
 
   -- and what has its check is read where it is an expansion: it has no more bytes than characters
   zero-or-12 : passing ≡ true → length (x .row) ≤ length out → (saidOf (readStrip s m t out .answer) .number ≡ 0) ⊎ (saidOf (readStrip s m t out .answer) .number ≡ 12)
-  unfolding readStrip readRow
-  zero-or-12 p k = rw exchanged-seen (go (unspell (symbologyOf s .coder) true 0 (headOf m row-swapped)) refl)
+  zero-or-12 p k = go (unspelled (symbologyOf s) m row-swapped) refl exchanged-seen
     where
-      go : (z : Reading) → unspell (symbologyOf s .coder) true 0 (headOf m row-swapped) ≡ z
-          → (saidOf (handed t (unspelled (symbologyOf s) m row-swapped z) out .answer) .number ≡ 0) ⊎ (saidOf (handed t (unspelled (symbologyOf s) m row-swapped z) out .answer) .number ≡ 12)
-      go (found b) u =
-          let f : length (b ++ kept (symbologyOf s) m row-swapped) ≤ suc (length row-swapped - 1)
-          = kept-few (symbologyOf s) m (length row-swapped - 1) _ row-swapped (omega arith) (record { body = b; spells = u; is = refl; passing = p }) in
-          inl (rw (p, le-ltb (length out) (length (b ++ kept (symbologyOf s) m row-swapped)) (omega (arith, length-swapped (x .row) (x .place), x .behind))))
-      go (stopped i) u = inr refl
+      few : (c : List ℕ) → unspelled (symbologyOf s) m row-swapped ≡ found c → length c ≤ length row-swapped
+      few c u =
+          let h : length c ≤ length (charsRead (symbologyOf s) m row-swapped) = unspell-short (symbologyOf s .coder m) (charsRead (symbologyOf s) m row-swapped) c u in
+          omega (arith, ap length (chars-front s m row-swapped some), length-take-le (length row-swapped - added m) row-swapped (omega arith))
+
+      go : (u : Reading) → unspelled (symbologyOf s) m row-swapped ≡ u → dataSeen s m t ≡ judged u
+          → (saidOf (readStrip s m t out .answer) .number ≡ 0) ⊎ (saidOf (readStrip s m t out .answer) .number ≡ 12)
+      go (found c) u f =
+          let g : dataSeen s m t ≡ gives c = rw p at f in
+          inl (rw (read-given s m t out c g, le-ltb (length out) (length c) (omega (arith, few c u, long-swapped))))
+      go (stopped i) u f = inr (rw (read-turned s m t out (NoExpansion (charPlace i)) f))
 
   -- and the row itself, with two equal characters exchanged, is what was accepted
   same-valid : one x ≡ other x → saidOf (readStrip s m t out .answer) .number ≡ 0
@@ -161,9 +200,9 @@ module _ (s m : ℕ) (d t out : List ℕ) (x : Exchanged s m d t) (n : m ≢ 0) 
       let p : passing ≡ true = valid (plain-of a) .0 e in
       (call (plain-of a) ∙ rw p, read-exactly s m (charsOf s (take (length d) row-swapped)) t .0 (data-seen (plain-of a) ∙ rw p))
 
-  not-passing : (b : Bool) → (b ≡ true → ⊥) → pick b done wrong ≡ wrong
+  not-passing : (b : Bool) → (b ≡ true → ⊥) → pick b done turned-away ≡ turned-away
   not-passing true f = absurd (f refl)
   not-passing false f = refl
 
-  pub turned-back : Named s → saidOf (readStrip s m t out .answer) .number ≢ 0 → readStrip s m t out ≡ wrong
+  pub turned-back : Named s → saidOf (readStrip s m t out .answer) .number ≢ 0 → readStrip s m t out ≡ turned-away
   turned-back a f = call (plain-of a) ∙ not-passing passing (λ e. f (valid (plain-of a) .1 e))

@@ -3,52 +3,45 @@
 --   field-data    so its row is that of the data
 --
 -- Assumes nothing.
-use mathlib.Core.Path.{_≡_, refl}
-use mathlib.Core.Bool.{true, false, _&&_, not}
+use mathlib.Core.Path.{_≡_, refl, sym, _∙_}
+use mathlib.Core.Bool.{true, _&&_}
 use mathlib.Core.List.{List}
-use Prim.Native.Nat.{ℕ, _+_}
+use Prim.Native.Nat.{ℕ}
 use native.Mathlib.Omega.{arith}
 use lib.Dec.{leb}
-use lib.ListN.{length, take, drop}
+use lib.ListN.{length, take}
 use lib.Seq.{length-take-le, take-all}
 use borrow.Author.Tests.{leb-true, le-leb, not-false}
 use Rattle.laws.proofs.Finite.{both-left, both-right}
-use Rattle.words.specs.declared.Answer.the-variants.{NoSymbology, NoMode, BadCount, FieldNotZero}
-use Rattle.rows.specs.Limits.{offered, holds}
-use Rattle.rows.specs.Symbologies.{symbologyOf}
-use Rattle.rows.specs.Rows.{gives, dataPlace, nonzero, unclean, drawnRow, rowOfField, rowOf}
-use Rattle.rows.proofs.Undo.{past-turned, empty-rest}
+use Rattle.words.specs.Order.{gives, turned}
+use Rattle.words.proofs.Order.{None, none-on, given}
+use Rattle.symbologies.specs.Limits.{holds}
+use Rattle.symbologies.specs.Symbologies.{Symbology, symbologyOf}
+use Rattle.symbologies.specs.Rows.{rowDrawn, rowChecks, rowOfField, rowOf}
+use Rattle.symbologies.proofs.Undo.{Passed, passed-row, row-passed, empty-rest}
 
--- what a field that is drawn passed
-record Passed (s m count : ℕ) (field r : List ℕ) : Type 0 where
-  known : not (symbologyOf s .limits .known) ≡ false
-  offers : not (offered (symbologyOf s .limits) m) ≡ false
-  counted : not (holds (symbologyOf s .limits) m count && leb count (length field)) ≡ false
-  row : drawnRow (symbologyOf s) m (take count field) ≡ gives r
-
-passed : (s m count : ℕ) (field r : List ℕ) → rowOfField s m count field ≡ gives r → Passed s m count field r
-unfolding rowOfField
-passed s m count field r e =
-    let a = past-turned (not (symbologyOf s .limits .known)) NoSymbology _ r e in
-    let b = past-turned (not (offered (symbologyOf s .limits) m)) NoMode _ r (a .1) in
-    let c = past-turned (not (holds (symbologyOf s .limits) m count && leb count (length field))) BadCount _ r (b .1) in
-    let d = past-turned (unclean count field) (FieldNotZero (dataPlace (count + nonzero (drop count field)))) _ r (c .1) in
-    record { known = a .0; offers = b .0; counted = c .0; row = d .1 }
-
-alone : (s m : ℕ) (d r : List ℕ) → Passed s m (length d) d r → rowOf s m d ≡ gives r
-unfolding rowOf rowOfField
-alone s m d r p = rw (p .known, p .offers, p .counted, empty-rest d) (p .row)
-
-pub field-data : (s m count : ℕ) (field r : List ℕ) → rowOfField s m count field ≡ gives r → rowOf s m (take count field) ≡ gives r
-field-data s m count field r e =
-    let p : Passed s m count field r = passed s m count field r e in
-    let t : (holds (symbologyOf s .limits) m count && leb count (length field)) ≡ true = not-false _ (p .counted) in
-    let l : length (take count field) ≡ count
-    = length-take-le count field (leb-true count (length field) (both-right (holds (symbologyOf s .limits) m count) _ t)) in
-    alone s m (take count field) r
-    (record {
+data-passed : (y : Symbology) (m count : ℕ) (field : List ℕ) → Passed y m count field → Passed y m (length (take count field)) (take count field)
+data-passed y m count field p =
+    let t : (holds (y .limits) m count && leb count (length field)) ≡ true = not-false _ (p .held) in
+    let l : length (take count field) ≡ count = length-take-le count field (leb-true count (length field) (both-right (holds (y .limits) m count) _ t)) in
+    let a : take (length (take count field)) (take count field) ≡ take count field = take-all (length (take count field)) (take count field) (omega arith) in
+    record {
       known = p .known;
       offers = p .offers;
-      counted = rw (l, le-leb count count (omega arith), both-left (holds (symbologyOf s .limits) m count) _ t) refl;
-      row = rw (l, take-all count (take count field) (omega arith)) (p .row);
-    })
+      held = rw (l, both-left (holds (y .limits) m count) _ t, le-leb count count (omega arith));
+      clean = empty-rest (take count field);
+      spells = rw a (p .spells);
+      paired = rw a (p .paired);
+      fits = rw a (p .fits);
+      right = rw a (p .right);
+    }
+
+pub field-data : (s m count : ℕ) (field r : List ℕ) → rowOfField s m count field ≡ gives r → rowOf s m (take count field) ≡ gives r
+unfolding rowOf rowOfField
+field-data s m count field r e =
+    let y : Symbology = symbologyOf s in
+    let d : List ℕ = take count field in
+    let g : None (rowChecks y m count field) × (rowDrawn y m d ≡ r) = given (rowChecks y m count field) (rowDrawn y m d) r e in
+    let p : Passed y m (length d) d = data-passed y m count field (passed-row y m count field (g .0)) in
+    none-on turned (rowChecks y m (length d) d) (gives (rowDrawn y m (take (length d) d))) (row-passed y m (length d) d p)
+    ∙ rw (take-all (length d) d (omega arith), g .1)

@@ -1,12 +1,10 @@
 pub mod Fields
+pub mod Order
+pub mod Requests
 pub mod Calls
-pub mod Sums
 pub mod Hands
 pub mod Only
-pub mod Honest
-pub mod Requests
 pub mod Exchanges
-pub mod Order
 pub mod Alone
 pub mod Demands
 pub mod Bench

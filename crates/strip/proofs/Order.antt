@@ -1,31 +1,27 @@
--- The definitions that `draw` and `read` promise answer with the first check of document 01's lists that applies (demand 1: "Bad
--- input is turned away with the number and place that document 01's table gives, in its order").
+-- The calls' answers are those of the lists that their definitions are made of (demand 1: "Bad input is turned away with the number that
+-- the table in document 01 gives for it, in the order given there").
 --
 --   read-numbers, draw-numbers    the lists' numbers, in the document's words
---   shown-picks                   10 and 11 as tests, one behind the other
 --   read-first, draw-first        the first that applies is the answer, and none is given otherwise
+--   read-refusals, draw-refusals  none of these numbers is 0
+--   draw-none, read-none          so an answer of number 0 passed every check
+--   kept                          and every other leaves the buffer as it was
 --
 -- Assumes nothing.
-use mathlib.Core.Path.{_≡_, refl, ap, _∙_}
-use mathlib.Core.Bool.{Bool, true, false, _&&_, _||_, not}
-use mathlib.Core.List.{List, [], _∷_, _++_, map}
-use Prim.Native.Nat.{ℕ, _-_}
-use lib.Dec.{ltb, leb}
-use lib.ListN.{length, getD, take}
+use mathlib.Core.Path.{_≡_, refl}
+use mathlib.Core.Logic.{_≢_}
+use mathlib.Core.Bool.{Bool, true, false}
+use mathlib.Core.List.{List, [], _∷_, map}
+use Prim.Native.Nat.{ℕ}
+use native.Mathlib.Omega.{arith}
+use lib.ListN.{take}
 use Rattle.laws.specs.Search.{pick}
-use Rattle.laws.specs.Units.{Reading, found, stopped}
 use Rattle.words.specs.declared.Answer.{Answer}
-use Rattle.words.specs.declared.Answer.the-variants.{NoSymbology, NoMode, BadCount, BadByte, OddCount, TooManyDrawn, BadLength, NoSuchUnit, NoSuchParities, NoExpansion}
 use Rattle.words.specs.Said.{saidOf}
-use Rattle.rows.specs.Limits.{offered, holds}
-use Rattle.rows.specs.Checks.{passes}
-use Rattle.rows.specs.Symbologies.{Symbology, symbologyOf}
-use Rattle.rows.specs.Rows.{Outcome, gives, turned, dataPlace, charPlace, odd, raw, ending, unclean, judged, spelled, drawnRow, rowOfField, kept, wrongCheck, unspelled, readRow}
-use Rattle.units.specs.Totals.{elementsOf}
-use Rattle.reads.specs.Seen.{elementPlace, countOf, unlike, rowFrom, shown, seen, rowSeen}
-use Rattle.strip.specs.Drawing.{Call, refused, onto, drawField}
-use Rattle.strip.specs.Reading.{readOn, dataSeen, handed, readStrip}
-use Rattle.strip.specs.Order.{Check, firstOf, stops, stopAt, finds, unitsRead, rowsRead, rowRead, itemsRead, dataRead, readingChecks, handedAnswer, itemsDrawn, rowDrawn, drawingChecks, drawnAnswer}
+use Rattle.words.specs.Order.{Check, firstOf}
+use Rattle.words.proofs.Order.{first-through, None, Refusals, zero-none}
+use Rattle.strip.specs.Drawing.{Call, refused, drawingChecks, drawField, drawnAnswer}
+use Rattle.strip.specs.Reading.{readingChecks, readStrip, handedAnswer}
 
 -- "Reading checks 1, 2, 9, 10, 11, 12, 7, 8."
 pub read-numbers : (s m : ℕ) (t out : List ℕ) → map (λ (c : Check). saidOf (c .answer) .number) (readingChecks s m t out) ≡ 1 ∷ 2 ∷ 9 ∷ 10 ∷ 11 ∷ 12 ∷ 7 ∷ 8 ∷ []
@@ -38,84 +34,54 @@ pub draw-numbers : (s m count : ℕ) (field out : List ℕ)
 unfolding drawingChecks
 draw-numbers s m count field out = refl
 
--- ---- a test in front: an answer is read off both sides of it
+-- ---- the first that applies
 
-short-first : (b : Bool) (a : Answer) (out : List ℕ) (c : Call) → pick b (refused a out) c .answer ≡ pick b a (c .answer)
-short-first true a out c = refl
-short-first false a out c = refl
-
--- a test that lets on, told as one that turns away
-turn : {A : Type 0} (b : Bool) (x y : A) → pick b x y ≡ pick (not b) y x
-turn true x y = refl
-turn false x y = refl
-
--- what is answered to an outcome
-module _ (f : Outcome → Answer) where
-  next : (b : Bool) (a : Answer) (z : Outcome) (w : Answer) → f (turned a) ≡ a → f z ≡ w → f (pick b (turned a) z) ≡ pick b a w
-  next true a z w e h = e
-  next false a z w e h = h
-
-  next-not : (b : Bool) (a : Answer) (z : Outcome) (w : Answer) → f (turned a) ≡ a → f z ≡ w → f (pick b z (turned a)) ≡ pick (not b) a w
-  next-not true a z w e h = h
-  next-not false a z w e h = e
-
--- ---- reading
-
-pub shown-picks : (s n : ℕ) (u : Reading) → shown s n u ≡ pick (stops u) (turned (NoSuchUnit (elementPlace (stopAt u)))) (rowFrom s n (λ i. getD (finds u) i 0))
-shown-picks s n (stopped i) = refl
-shown-picks s n (found cs) = refl
-
-unspelled-picks : (y : Symbology) (m : ℕ) (r : List ℕ) (u : Reading)
-    → unspelled y m r u ≡ pick (stops u) (turned (NoExpansion (charPlace (stopAt u)))) (pick (passes (y .rule) m r) (gives (finds u ++ kept y m r)) (wrongCheck r))
-unspelled-picks y m r (stopped i) = refl
-unspelled-picks y m r (found d) = refl
-
-pub read-first : (s m : ℕ) (t out : List ℕ) → readStrip s m t out .answer ≡ firstOf (readingChecks s m t out) (handedAnswer s m t)
-unfolding readStrip dataSeen rowSeen seen readRow readingChecks handedAnswer
-read-first s m t out =
-    next row (not (symbologyOf s .limits .known)) NoSymbology _ _ refl
-    (next row (not (offered (symbologyOf s .limits) m)) NoMode _ _ refl
-    (next-not row (ltb (countOf s m (length t)) 35) BadLength _ _ refl
-    (ap row (shown-picks s (countOf s m (length t)) (unitsRead s m t)) ∙ next row (stops (unitsRead s m t)) _ _ _ refl
-    (next row (unlike s (rowsRead s m t)) NoSuchParities _ _ refl
-    (ap text (unspelled-picks (symbologyOf s) m (rowRead s m t) (itemsRead s m t)) ∙ next text (stops (itemsRead s m t)) _ _ _ refl
-    (next-not text (passes (symbologyOf s .rule) m (rowRead s m t)) _ _ _ refl
-    (short-first (ltb (length out) (length (dataRead s m t))) _ out _)))))))
-  where
-    text : Outcome → Answer
-    text z = handed t z out .answer
-
-    row : Outcome → Answer
-    row z = text (readOn s m z)
-
--- ---- drawing
-
--- 4 in one: the spelling stops, or the last byte is no character
-spelled-picks : (y : Symbology) (m : ℕ) (d : List ℕ) (u : Reading)
-    → spelled y m d u
-    ≡ pick (stops u || not (raw y m d)) (turned (BadByte (dataPlace (pick (stops u) (stopAt u) (length d - 1))))) (judged y m (finds u ++ ending y m d (finds u)))
-spelled-picks y m d (stopped i) = refl
-spelled-picks y m d (found h) = turn (raw y m d) _ _
+pub read-first : (s m : ℕ) (t out : List ℕ) → readStrip s m t out .answer ≡ firstOf (λ a. a) (readingChecks s m t out) (handedAnswer s m t)
+unfolding readStrip handedAnswer
+read-first s m t out = first-through (refused out) (λ (c : Call). c .answer) (readingChecks s m t out) _
 
 pub draw-first : (s m count : ℕ) (field out : List ℕ)
-    → drawField s m count field out .answer ≡ firstOf (drawingChecks s m count field out) (drawnAnswer s m (take count field))
-unfolding drawField rowOfField drawnRow drawingChecks drawnAnswer
-draw-first s m count field out =
-    next row (not (symbologyOf s .limits .known)) NoSymbology _ _ refl
-    (next row (not (offered (symbologyOf s .limits) m)) NoMode _ _ refl
-    (next row (not (holds (symbologyOf s .limits) m count && leb count (length field))) BadCount _ _ refl
-    (next row (unclean count field) _ _ _ refl
-    (ap row (spelled-picks (symbologyOf s) m d (itemsDrawn s m d)) ∙ next row (stops (itemsDrawn s m d) || not (raw (symbologyOf s) m d)) _ _ _ refl
-    (next row (odd (symbologyOf s) (length r)) OddCount _ _ refl
-    (next row (ltb (symbologyOf s .room) (length r)) TooManyDrawn _ _ refl
-    (next-not row (passes (symbologyOf s .rule) m r) _ _ _ refl
-    (short-first (ltb (length out) (elementsOf s (length r))) _ _ _))))))))
+    → drawField s m count field out .answer ≡ firstOf (λ a. a) (drawingChecks s m count field out) (drawnAnswer s m (take count field))
+unfolding drawField drawnAnswer
+draw-first s m count field out = first-through (refused out) (λ (c : Call). c .answer) (drawingChecks s m count field out) _
+
+-- ---- numbers other than 0
+
+abbrev Some : List ℕ → Type 0
+Some [] = Unit {0}
+Some (n ∷ ns) = (n ≢ 0) × Some ns
+
+refusals : (cs : List Check) (ns : List ℕ) → map (λ (c : Check). saidOf (c .answer) .number) cs ≡ ns → Some ns → Refusals cs
+refusals [] ns e s = tt
+refusals (c ∷ cs) [] e s = let z : _≡_ {A = ℕ} 0 1 = cc in absurd (omega arith)
+refusals (c ∷ cs) (n ∷ ns) e s =
+    let p : saidOf (c .answer) .number ≡ n = cc in
+    let q : map (λ (c : Check). saidOf (c .answer) .number) cs ≡ ns = cc in
+    (rw p (s .0), refusals cs ns q (s .1))
+
+read-refusals : (s m : ℕ) (t out : List ℕ) → Refusals (readingChecks s m t out)
+read-refusals s m t out =
+    refusals (readingChecks s m t out) _ (read-numbers s m t out)
+    (omega arith, (omega arith, (omega arith, (omega arith, (omega arith, (omega arith, (omega arith, (omega arith, tt))))))))
+
+draw-refusals : (s m count : ℕ) (field out : List ℕ) → Refusals (drawingChecks s m count field out)
+draw-refusals s m count field out =
+    refusals (drawingChecks s m count field out) _ (draw-numbers s m count field out)
+    (omega arith, (omega arith, (omega arith, (omega arith, (omega arith, (omega arith, (omega arith, (omega arith, (omega arith, tt)))))))))
+
+pub draw-none : (s m count : ℕ) (field out : List ℕ) → saidOf (drawField s m count field out .answer) .number ≡ 0 → None (drawingChecks s m count field out)
+draw-none s m count field out e = zero-none (drawingChecks s m count field out) _ (draw-refusals s m count field out) (rw (draw-first s m count field out) at e)
+
+pub read-none : (s m : ℕ) (t out : List ℕ) → saidOf (readStrip s m t out .answer) .number ≡ 0 → None (readingChecks s m t out)
+read-none s m t out e = zero-none (readingChecks s m t out) _ (read-refusals s m t out) (rw (read-first s m t out) at e)
+
+-- ---- the buffer
+
+pub kept : (out : List ℕ) (cs : List Check) (z : Call) → saidOf (z .answer) .number ≡ 0 → saidOf (firstOf (refused out) cs z .answer) .number ≢ 0 → firstOf (refused out) cs z .buffer ≡ out
+kept out [] z e n = absurd (n e)
+kept out (c ∷ cs) z e n = go (c .applies) (kept out cs z e) n
   where
-    row : Outcome → Answer
-    row z = onto s z out .answer
-
-    d : List ℕ
-    d = take count field
-
-    r : List ℕ
-    r = rowDrawn s m d
+    go : (b : Bool) → (saidOf (firstOf (refused out) cs z .answer) .number ≢ 0 → firstOf (refused out) cs z .buffer ≡ out)
+        → saidOf (pick b (refused out (c .answer)) (firstOf (refused out) cs z) .answer) .number ≢ 0 → pick b (refused out (c .answer)) (firstOf (refused out) cs z) .buffer ≡ out
+    go true f n = refl
+    go false f n = f n

@@ -2,8 +2,10 @@
 -- the definitions.
 --
 --   Draws          an accepted request draws a strip
---   draw-whole, drawn-is                                     demand 2, drawing
---   read-exactly, read-whole, turned-always                  demand 2, reading (`read-exactly` for the reader: both directions in one)
+--   draw-given, draw-turned                                  drawing, by the row of a field
+--   draw-whole, drew-row, drawn-is                           demand 2, drawing
+--   read-given, read-turned                                  reading, by the data that are seen; seen-data, seen-as, by the row
+--   read-exactly, read-whole, read-drawn                     demand 2, reading (`read-exactly` for the reader: both directions in one)
 --   same-bytes, one-element, one-character                   demand 3; relaid-seen, of rows that are laid out anew
 --   draw-keeps, data-keeps, read-keeps                       demand 1
 --
@@ -11,43 +13,41 @@
 use mathlib.Core.Path.{_≡_, refl, sym, ap, _∙_}
 use mathlib.Core.Logic.{_≢_, _↔_}
 use mathlib.Core.Bool.{Bool, true, false}
-use mathlib.Core.List.{List, _++_}
+use mathlib.Core.List.{List, [], _∷_, _++_}
 use Prim.Native.Nat.{ℕ, _<_, _≤_}
 use native.Mathlib.Omega.{arith}
 use lib.Dec.{ltb}
 use lib.ListN.{length, getD, take, drop, set, length-set}
 use lib.Seq.{take-at}
-use borrow.Author.Tests.{le-ltb}
+use borrow.Author.Tests.{le-ltb, lt-ltb}
 use Rattle.laws.specs.Search.{pick}
 use Rattle.laws.specs.Elements.{sum}
-use Rattle.laws.proofs.Spelling.{Below, below-set}
 use Rattle.laws.specs.Units.{Fits}
+use Rattle.laws.proofs.Spelling.{Below, below-set}
+use Rattle.laws.proofs.Fitting.{at}
 use Rattle.laws.proofs.Elements.{dist-set}
 use Rattle.laws.proofs.Strips.{strip-far}
 use Rattle.words.specs.declared.Answer.{Answer}
-use Rattle.words.specs.declared.Answer.the-variants.{ShortForStrip, HandedBack}
 use Rattle.words.specs.Said.{saidOf}
+use Rattle.words.specs.Order.{firstOf, gives, turned, outcome}
+use Rattle.words.proofs.Order.{None, none-on, none-split, given, first-given, first-turned}
 use Rattle.tables.specs.Alphabet.{size}
-use Rattle.rows.specs.Symbologies.{symbologyOf}
-use Rattle.rows.specs.Rows.{Outcome, gives, turned, drawable, rowOfField, rowOf, readRow, dataOfCount, dataOf}
-use Rattle.rows.specs.Held.{byteCount}
-use Rattle.rows.proofs.Undo.{undrawn, Reads, reads, undo}
-use Rattle.rows.proofs.Within.{drawn-below}
-use Rattle.rows.proofs.Catches.{replaced}
-use Rattle.units.specs.Plans.{planOf, unitsOf, stripOf}
-use Rattle.units.specs.Totals.{elementsOf}
-use Rattle.units.specs.Laid.{counted, ready, elementCount, moduleCount}
-use Rattle.units.proofs.Ready.{ready-counted, below-allowed, no-codabar, drawn-ready, ready-fits, all-good}
-use Rattle.units.proofs.Totals.{elements}
-use Rattle.reads.specs.Seen.{rowSeen}
-use Rattle.reads.specs.Held.{countFor}
-use Rattle.reads.proofs.Lengths.{same-count}
-use Rattle.reads.proofs.Shown.{Shown, shown-row}
-use Rattle.reads.proofs.Exact.{ready-seen, drawn-seen, seen-drawn}
-use Rattle.strip.specs.Drawing.{Call, refused, drawn, onto, drawField, drawData}
+use Rattle.symbologies.specs.Limits.{drawable}
+use Rattle.symbologies.specs.Symbologies.{Symbology, symbologyOf}
+use Rattle.symbologies.specs.Rows.{rowDrawn, rowChecks, rowOfField, rowOf, dataRead, countChecks, dataChecks, dataOfCount, dataOf}
+use Rattle.symbologies.specs.Strips.{elementsOf, unitsOf, stripOf, counted, ready, countFor, rowRead, seenChecks, rowSeen}
+use Rattle.symbologies.proofs.Proper.{proper, undo}
+use Rattle.symbologies.proofs.Undo.{Reads, reads}
+use Rattle.symbologies.proofs.Catches.{replaced}
+use Rattle.symbologies.proofs.Ready.{ready-counted, ready-below, free-set, below-allowed, no-codabar, drawn-ready, ready-fits, all-good}
+use Rattle.symbologies.proofs.Totals.{elements}
+use Rattle.symbologies.proofs.Counting.{same-count}
+use Rattle.symbologies.proofs.Shown.{Shown, shown-row}
+use Rattle.symbologies.proofs.Exact.{ready-seen, drawn-seen, seen-drawn}
+use Rattle.strip.specs.Drawing.{Call, refused, drawn, shortFor, drawingChecks, drawField, drawData}
+use Rattle.strip.specs.Reading.{dataIn, dataSeenChecks, dataSeen, shortData, readingChecks, handed, readStrip}
 use Rattle.strip.proofs.Fields.{field-data}
-use Rattle.strip.proofs.Honest.{field-honest}
-use Rattle.strip.specs.Reading.{readOn, dataSeen, handed, readStrip}
+use Rattle.strip.proofs.Order.{draw-none, read-none, kept}
 
 -- an accepted request of symbology s and mode m: its data d draw the strip t
 pub record Draws (s m : ℕ) (d t : List ℕ) : Type 0 where
@@ -58,87 +58,105 @@ pub record Draws (s m : ℕ) (d t : List ℕ) : Type 0 where
 -- ---- demand 2: "The strip drawn is the one that the tables and check rules of sources 001 and 004, as fixed in document 01, lay down":
 -- `stripOf` the row of the data, and nothing else is drawn.
 
+module _ (s m count : ℕ) (field out : List ℕ) where
+  pub draw-given : (r : List ℕ) → rowOfField s m count field ≡ gives r → drawField s m count field out ≡ firstOf (refused out) (shortFor s r out ∷ []) (drawn s r out)
+  unfolding drawField drawingChecks rowOfField
+  draw-given r e =
+      first-given (refused out) (rowChecks (symbologyOf s) m count field) (λ x. shortFor s x out ∷ []) (λ x. drawn s x out) (rowDrawn (symbologyOf s) m (take count field)) r e
+
+  pub draw-turned : (a : Answer) → rowOfField s m count field ≡ turned a → drawField s m count field out ≡ refused out a
+  unfolding drawField drawingChecks rowOfField
+  draw-turned a e =
+      let r : List ℕ = rowDrawn (symbologyOf s) m (take count field) in
+      first-turned (refused out) (rowChecks (symbologyOf s) m count field) (shortFor s r out ∷ []) r a (drawn s r out) e
+
 pub draw-whole : (s m : ℕ) (d r out : List ℕ) → rowOf s m d ≡ gives r → elementsOf s (length r) ≤ length out → drawData s m d out ≡ drawn s r out
-unfolding drawData drawField rowOf
-draw-whole s m d r out e l = rw (e, le-ltb (length out) (elementsOf s (length r)) l)
+unfolding drawData rowOf
+draw-whole s m d r out e l = draw-given s m (length d) d out r e ∙ rw (le-ltb (length out) (elementsOf s (length r)) l)
 
--- a call that answers 0 drew an accepted request's strip
-record Accepted (s m count : ℕ) (field out : List ℕ) : Type 0 where
-  row : List ℕ
-  given : rowOf s m (take count field) ≡ gives row
-  whole : drawField s m count field out ≡ drawn s row out
+-- a call that answers 0 drew the row of its data
+pub record Drew (s m count : ℕ) (field out : List ℕ) : Type 0 where
+  pub row : List ℕ
+  pub given-row : rowOfField s m count field ≡ gives row
+  pub whole : drawField s m count field out ≡ drawn s row out
 
-short-or : (b : Bool) (a : Answer) (c : Call) (out : List ℕ) → saidOf a .number ≢ 0 → saidOf (pick b (refused a out) c .answer) .number ≡ 0 → pick b (refused a out) c ≡ c
-short-or true a c out n e = absurd (n e)
-short-or false a c out n e = refl
-
-accepted-by : (s m count : ℕ) (field out : List ℕ) → saidOf (drawField s m count field out .answer) .number ≡ 0 → Accepted s m count field out
-unfolding drawField
-accepted-by s m count field out = go (rowOfField s m count field) refl
-  where
-    go : (z : Outcome) → rowOfField s m count field ≡ z → saidOf (onto s z out .answer) .number ≡ 0 → Accepted s m count field out
-    go (turned a) q e = absurd (field-honest s m count field a q e)
-    go (gives r) q e = record {
+pub drew-row : (s m count : ℕ) (field out : List ℕ) → saidOf (drawField s m count field out .answer) .number ≡ 0 → Drew s m count field out
+unfolding drawingChecks rowOfField drawField
+drew-row s m count field out e =
+    let y : Symbology = symbologyOf s in
+    let r : List ℕ = rowDrawn y m (take count field) in
+    let n : None (drawingChecks s m count field out) = draw-none s m count field out e in
+    record {
       row = r;
-      given = field-data s m count field r q;
-      whole = ap (λ (y : Outcome). onto s y out) q ∙ short-or (ltb (length out) (elementsOf s (length r))) (ShortForStrip (elementCount (elementsOf s (length r)))) (drawn s r out) out (omega arith) e;
+      given-row = none-on turned (rowChecks y m count field) (gives r) (none-split (rowChecks y m count field) (shortFor s r out ∷ []) n .0);
+      whole = none-on (refused out) (drawingChecks s m count field out) (drawn s r out) n;
     }
 
 -- so its first elements are a strip that the field's data draw
 pub drawn-is : (s m count : ℕ) (field out : List ℕ) → saidOf (drawField s m count field out .answer) .number ≡ 0
     → Draws s m (take count field) (take (saidOf (drawField s m count field out .answer) .count) (drawField s m count field out .buffer))
 drawn-is s m count field out e =
-    let w : Accepted s m count field out = accepted-by s m count field out e in
-    let h : ready s (w .row) ≡ true = drawn-ready s m (take count field) (w .row) (w .given) in
+    let w : Drew s m count field out = drew-row s m count field out e in
+    let f : rowOf s m (take count field) ≡ gives (w .row) = field-data s m count field (w .row) (w .given-row) in
+    let h : ready s (w .row) ≡ true = drawn-ready s m (take count field) (w .row) f in
     record {
       row = w .row;
-      accepted = w .given;
+      accepted = f;
       drawing = rw (w .whole, take-at (stripOf s (w .row)) (drop (elementsOf s (length (w .row))) out) (elementsOf s (length (w .row))) (elements s (w .row) h));
     }
 
 -- "The reader, told symbology and mode and lent room enough, hands back the data of the request that draws this strip,
 -- and turns a strip away exactly if no accepted request of that symbology and mode draws it."
 
-data-back : (s m : ℕ) (d r : List ℕ) → rowOf s m d ≡ gives r → readRow (symbologyOf s) m r ≡ gives d
-data-back s m d r e = undrawn (symbologyOf s) m d r (reads s m d r (undo s m d r .0 e) .row)
+module _ (s m : ℕ) (t out : List ℕ) where
+  pub read-given : (d : List ℕ) → dataSeen s m t ≡ gives d → readStrip s m t out ≡ firstOf (refused out) (shortData d out ∷ []) (handed t d out)
+  unfolding readStrip readingChecks dataSeen
+  read-given d e = first-given (refused out) (dataSeenChecks s m t) (λ x. shortData x out ∷ []) (λ x. handed t x out) (dataIn s m t) d e
 
-read-back : (s m : ℕ) (d t : List ℕ) → Draws s m d t → dataSeen s m t ≡ gives d
-unfolding dataSeen
-read-back s m d t w = rw (← w .drawing, drawn-seen s m d (w .row) (w .accepted)) (data-back s m d (w .row) (w .accepted))
+  pub read-turned : (a : Answer) → dataSeen s m t ≡ turned a → readStrip s m t out ≡ refused out a
+  unfolding readStrip readingChecks dataSeen
+  read-turned a e = first-turned (refused out) (dataSeenChecks s m t) (shortData (dataIn s m t) out ∷ []) (dataIn s m t) a (handed t (dataIn s m t) out) e
 
-shown-data : (s m : ℕ) (t r : List ℕ) → Shown s m t r → dataOf s m r ≡ readRow (symbologyOf s) m r
+-- the data of a strip whose row is seen
+pub seen-data : (s m : ℕ) (t r : List ℕ) → rowSeen s m t ≡ gives r → dataSeen s m t ≡ outcome (dataChecks (symbologyOf s) m r) (dataRead (symbologyOf s) m r)
+unfolding rowSeen dataSeen
+seen-data s m t r e =
+    first-given turned (seenChecks s m t) (dataChecks (symbologyOf s) m) (λ x. gives (dataRead (symbologyOf s) m x)) (rowRead s t) r e
+
+-- 1, 2 and 9 have nothing against it
+shown-data : (s m : ℕ) (t r : List ℕ) → Shown s m t r → dataOf s m r ≡ outcome (dataChecks (symbologyOf s) m r) (dataRead (symbologyOf s) m r)
 unfolding dataOf dataOfCount
 shown-data s m t r w = rw (w .known, w .offers, w .can)
 
-row-drawn : (s m : ℕ) (d t r : List ℕ) → rowSeen s m t ≡ gives r → readRow (symbologyOf s) m r ≡ gives d → Draws s m d t
-row-drawn s m d t r e f = record {
-  row = r;
-  accepted = undo s m d r .1 (shown-data s m t r (shown-row s m t r e) ∙ f);
-  drawing = seen-drawn s m t r e .1;
-}
+pub seen-as : (s m : ℕ) (t r : List ℕ) → rowSeen s m t ≡ gives r → dataSeen s m t ≡ dataOf s m r
+seen-as s m t r e = seen-data s m t r e ∙ sym (shown-data s m t r (shown-row s m t r e))
+
+read-back : (s m : ℕ) (d t : List ℕ) → Draws s m d t → dataSeen s m t ≡ gives d
+read-back s m d t w = seen-as s m t (w .row) (rw (← w .drawing) (drawn-seen s m d (w .row) (w .accepted))) ∙ undo s m d (w .row) .0 (w .accepted)
 
 draws-back : (s m : ℕ) (d t : List ℕ) → dataSeen s m t ≡ gives d → Draws s m d t
 unfolding dataSeen
-draws-back s m d t e = go (rowSeen s m t) refl e
-  where
-    go : (z : Outcome) → rowSeen s m t ≡ z → readOn s m z ≡ gives d → Draws s m d t
-    go (gives r) q f = row-drawn s m d t r q f
-    go (turned a) q f = let z : _≡_ {A = ℕ} 0 1 = cc in absurd (omega arith)
+draws-back s m d t e =
+    let n : None (seenChecks s m t) = none-split (seenChecks s m t) (dataChecks (symbologyOf s) m (rowRead s t)) (given (dataSeenChecks s m t) _ d e .0) .0 in
+    let q : rowSeen s m t ≡ gives (rowRead s t) = unfold rowSeen in none-on turned (seenChecks s m t) _ n in
+    record {
+      row = rowRead s t;
+      accepted = undo s m d (rowRead s t) .1 (sym (seen-as s m t (rowRead s t) q) ∙ e);
+      drawing = seen-drawn s m t (rowRead s t) q .1;
+    }
 
 pub read-exactly : (s m : ℕ) (d t : List ℕ) → (dataSeen s m t ≡ gives d) ↔ Draws s m d t
 read-exactly s m d t = (draws-back s m d t, read-back s m d t)
 
-pub read-whole : (s m : ℕ) (d t out : List ℕ) → Draws s m d t → length d ≤ length out
-    → readStrip s m t out ≡ record { answer = HandedBack (byteCount (length d)) (moduleCount (sum t)); buffer = d ++ drop (length d) out }
-unfolding readStrip
-read-whole s m d t out w l = rw (read-back s m d t w, le-ltb (length out) (length d) l)
+pub read-whole : (s m : ℕ) (d t out : List ℕ) → Draws s m d t → length d ≤ length out → readStrip s m t out ≡ handed t d out
+read-whole s m d t out w l = read-given s m t out d (read-back s m d t w) ∙ rw (le-ltb (length out) (length d) l)
 
-pub turned-always : (s m : ℕ) (t : List ℕ) → ((d : List ℕ) → Draws s m d t → ⊥) → (a : Answer) × (dataSeen s m t ≡ turned a)
-turned-always s m t n = go (dataSeen s m t) refl
-  where
-    go : (z : Outcome) → dataSeen s m t ≡ z → (a : Answer) × (dataSeen s m t ≡ turned a)
-    go (gives d) q = absurd (n d (draws-back s m d t q))
-    go (turned a) q = (a, q)
+-- what is answered with 0 is a strip that a request draws
+pub read-drawn : (s m : ℕ) (t out : List ℕ) → saidOf (readStrip s m t out .answer) .number ≡ 0 → (d : List ℕ) × Draws s m d t
+unfolding readingChecks dataSeen
+read-drawn s m t out e =
+    let n : None (dataSeenChecks s m t) = none-split (dataSeenChecks s m t) (shortData (dataIn s m t) out ∷ []) (read-none s m t out e) .0 in
+    (dataIn s m t, draws-back s m (dataIn s m t) t (none-on turned (dataSeenChecks s m t) (gives (dataIn s m t)) n))
 
 -- ---- demand 3: "Within one symbology and mode two accepted requests draw the same strip only if their bytes are the same, zeros at the
 -- front counted."
@@ -160,15 +178,15 @@ one-element s m d e t i w v l n x =
     let k : ready s (x .row) ≡ true = drawn-ready s m e (x .row) (x .accepted) in
     let o : length (stripOf s (x .row)) ≡ length (stripOf s (v .row)) = ap length (x .drawing) ∙ length-set t i w ∙ sym (ap length (v .drawing)) in
     let p : length (x .row) ≡ length (v .row) = same-long s (x .row) (v .row) k h o in
-    let f : Fits (unitsOf s (length (v .row))) (planOf s .choices (x .row)) = rw p at (ready-fits s (x .row) k) in
-    strip-far (unitsOf s (length (v .row))) (planOf s .choices (v .row)) (planOf s .choices (x .row)) (all-good s (length (v .row))) (ready-fits s (v .row) h) f
+    let f : Fits (unitsOf s (length (v .row))) (symbologyOf s .shows .choices (x .row)) = rw p at (ready-fits s (x .row) k) in
+    strip-far (unitsOf s (length (v .row))) (symbologyOf s .shows .choices (v .row)) (symbologyOf s .shows .choices (x .row)) (all-good s (length (v .row))) (ready-fits s (v .row) h) f
     (rw (v .drawing, ← p, x .drawing) (dist-set t i w l n))
 
 -- "Where there is a check character, any one drawn character replaced by another of its set: refused."
 
 -- a row of as many characters of the set, laid out anew, is seen
 module _ (s m : ℕ) (d r q : List ℕ) (n : m ≢ 0) (e : rowOf s m d ≡ gives r) (l : length q ≡ length r) (b : Below (size (symbologyOf s .alphabet)) q) where
-  row-read : Reads s m d r
+  row-read : Reads (symbologyOf s) m d r
   row-read = reads s m d r (undo s m d r .0 e)
 
   relaid-ready : ready s q ≡ true
@@ -179,33 +197,27 @@ module _ (s m : ℕ) (d r q : List ℕ) (n : m ≢ 0) (e : rowOf s m d ≡ gives
 
   pub relaid-seen : rowSeen s m (stripOf s q) ≡ gives q
   relaid-seen =
-      let p : drawable (symbologyOf s) m (length q) ≡ true = rw (l, row-read .count, row-read .paired) in
+      let p : drawable (symbologyOf s .limits) m (length q) ≡ true = rw (l, row-read .count, row-read .paired) in
       ready-seen s m q (row-read .known) (row-read .offers) p relaid-ready
 
 pub one-character : (s m : ℕ) (d e t : List ℕ) (w : Draws s m d t) (i v : ℕ) → m ≢ 0 → i < length (w .row) → v < size (symbologyOf s .alphabet) → v ≢ getD (w .row) i 0
     → Draws s m e (stripOf s (set (w .row) i v)) → ⊥
 one-character s m d e t w i v n h k q x =
     let r : List ℕ = w .row in
-    let b : Below (size (symbologyOf s .alphabet)) (set r i v) = below-set (size (symbologyOf s .alphabet)) r i v (drawn-below s m d r (w .accepted)) k in
+    let a : Reads (symbologyOf s) m d r = reads s m d r (undo s m d r .0 (w .accepted)) in
+    let c = no-codabar s m (a .offers) n in
+    let b : Below (size (symbologyOf s .alphabet)) (set r i v) = below-set (size (symbologyOf s .alphabet)) r i v (ready-below s r c (drawn-ready s m d r (w .accepted))) k in
     let f : rowSeen s m (stripOf s (set r i v)) ≡ gives (x .row) = rw (← x .drawing) (drawn-seen s m e (x .row) (x .accepted)) in
     let g : gives (set r i v) ≡ gives (x .row) = sym (relaid-seen s m d r (set r i v) n (w .accepted) (length-set r i v) b) ∙ f in
     let same : x .row ≡ set r i v = cc in
-    replaced s m d e r i v n (undo s m d r .0 (w .accepted)) h k q (rw (← same) (undo s m e (x .row) .0 (x .accepted)))
+    replaced (symbologyOf s) (proper s) m d e r i v n a h (rw (free-set s c (at i (length r)) v) (lt-ltb v _ k)) q
+    (rw same at (reads s m e (x .row) (undo s m e (x .row) .0 (x .accepted))))
 
 -- ---- demand 1: "A call that turns something away changes no byte lent to it."
 
-kept-short : (b : Bool) (a : Answer) (c : Call) (out : List ℕ) → saidOf (c .answer) .number ≡ 0
-    → saidOf (pick b (refused a out) c .answer) .number ≢ 0 → pick b (refused a out) c .buffer ≡ out
-kept-short true a c out e n = refl
-kept-short false a c out e n = absurd (n e)
-
 pub draw-keeps : (s m count : ℕ) (field out : List ℕ) → saidOf (drawField s m count field out .answer) .number ≢ 0 → drawField s m count field out .buffer ≡ out
 unfolding drawField
-draw-keeps s m count field out = go (rowOfField s m count field)
-  where
-    go : (z : Outcome) → saidOf (onto s z out .answer) .number ≢ 0 → onto s z out .buffer ≡ out
-    go (turned a) n = refl
-    go (gives r) n = kept-short (ltb (length out) (elementsOf s (length r))) _ (drawn s r out) out refl n
+draw-keeps s m count field out n = kept out (drawingChecks s m count field out) _ refl n
 
 pub data-keeps : (s m : ℕ) (d out : List ℕ) → saidOf (drawData s m d out .answer) .number ≢ 0 → drawData s m d out .buffer ≡ out
 unfolding drawData
@@ -213,8 +225,4 @@ data-keeps s m d out = draw-keeps s m (length d) d out
 
 pub read-keeps : (s m : ℕ) (t out : List ℕ) → saidOf (readStrip s m t out .answer) .number ≢ 0 → readStrip s m t out .buffer ≡ out
 unfolding readStrip
-read-keeps s m t out = go (dataSeen s m t)
-  where
-    go : (z : Outcome) → saidOf (handed t z out .answer) .number ≢ 0 → handed t z out .buffer ≡ out
-    go (turned a) n = refl
-    go (gives d) n = kept-short (ltb (length out) (length d)) _ _ out refl n
+read-keeps s m t out n = kept out (readingChecks s m t out) _ refl n

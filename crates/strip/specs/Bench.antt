@@ -20,10 +20,10 @@ use lib.ListN.{length}
 use Rattle.laws.specs.Elements.{alike, sum}
 use Rattle.tables.specs.Printed.{text}
 use Rattle.tables.specs.Alphabet.{byteOf}
-use Rattle.rows.specs.Symbologies.{symbologyOf}
-use Rattle.rows.specs.Rows.{Outcome, gives, turned, rowOf}
-use Rattle.units.specs.Plans.{stripOf}
-use Rattle.units.specs.Totals.{elementsOf, modulesOf}
+use Rattle.words.specs.Order.{Outcome, gives, turned}
+use Rattle.symbologies.specs.Symbologies.{symbologyOf}
+use Rattle.symbologies.specs.Rows.{rowOf}
+use Rattle.symbologies.specs.Strips.{elementsOf, modulesOf, stripOf}
 
 pub data Says : Type 0 where
   draws-strip : String → ℕ → Says

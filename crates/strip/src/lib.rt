@@ -8,25 +8,26 @@
 // `read` hands back the data of a strip in a lent buffer, or turns it away with the first of 1, 2, 9, 10, 11, 12, 7, 8 that applies.
 //
 // One definition gives the answer and the buffer of a call: `drawField` (specs/Drawing.antt), of which `draw` is the case of a
-// field of just the data's length, and `readStrip` (specs/Reading.antt).
+// field of just the data's length, and `readStrip` (specs/Reading.antt). Each is the first of a list of checks that applies.
 //
 // `c` has `draw` and `read` for callers from C.
 pub mod c;
 
 use rows::Handed;
-use rows::Row;
-use rows::Verdict;
+use symbologies::lengths;
+use symbologies::limits::Verdict;
+use symbologies::row::Row;
+use symbologies::sizes::PLACES;
 use units::Laid;
 use words::Answer;
 use words::Modules;
 ghost use mathlib.Core.Path.{_≡_};
-ghost use Prim.Native.Nat.{_≤_};
 ghost use lib.ListN.{length};
-ghost use Rattle.laws.specs.Elements.{sum};
-ghost use Rattle.rows.specs.Held.{dataOfRow};
+ghost use Rattle.symbologies.specs.Told.{modulesWithin};
+ghost use Rattle.rows.specs.Held.{dataOfRow, handedOf, written};
 ghost use Rattle.units.specs.Laid.{charsOf, laidOf, laidIn};
 ghost use Rattle.strip.specs.Drawing.{drawData, drawField, answerOf};
-ghost use Rattle.strip.specs.Reading.{handed, readStrip};
+ghost use Rattle.strip.specs.Reading.{readStrip, answerFor};
 
 // The strip of data.
 pub fn draw(symbology: u8, mode: u8, text: &[u8], out: &mut [u8]) -> Answer
@@ -41,11 +42,19 @@ pub fn draw_field(kind: u8, mode: u8, count: usize, field: &[u8], out: &mut [u8]
     ensures { λ r. ⌜ r ≡ drawField kind mode count (now (field .entry)) (now (out .entry)) .answer ⌝ }
     ensures { λ _. ⌜ now (out .exit) ≡ drawField kind mode count (now (field .entry)) (now (out .entry)) .buffer ⌝ }
 {
-    let rowed = rows::row_of_field(kind, mode, count, field);
-    let verdict = rowed.verdict;
+    let mut codes = [0; PLACES];
+    let filled = rows::row_of_field(kind, mode, count, field, &mut codes);
+    let verdict = filled.verdict;
     match verdict {
         Verdict::Turned(answer) => answer,
-        Verdict::Given => lay(kind, rowed.row, out),
+        Verdict::Given => lay(
+            kind,
+            Row {
+                codes,
+                len: filled.len,
+            },
+            out,
+        ),
     }
 }
 
@@ -71,33 +80,21 @@ pub fn read(symbology: u8, mode: u8, strip: &[u8], out: &mut [u8]) -> Answer
     let verdict = rowed.verdict;
     match verdict {
         Verdict::Turned(answer) => answer,
-        Verdict::Given => hand_back(symbology, mode, rowed.row, strip, out),
+        Verdict::Given => hand_back(symbology, mode, rowed.row, out),
     }
 }
 
-// The answer for the row of a strip: 12, 7, 8, or its data.
-fn hand_back(symbology: u8, mode: u8, row: Row, strip: &[u8], out: &mut [u8]) -> Answer
-    requires { ⌜ length (now strip) ≤ 339 ⌝ }
-    ensures { λ r. ⌜ r ≡ handed (now (strip .entry)) (dataOfRow symbology mode row) (now (out .entry)) .answer ⌝ }
-    ensures { λ _. ⌜ now (out .exit) ≡ handed (now (strip .entry)) (dataOfRow symbology mode row) (now (out .entry)) .buffer ⌝ }
+// The answer for the row of a strip: 12, 7, 8, or its data. What was read is drawn, so its total is the formula's.
+fn hand_back(symbology: u8, mode: u8, row: Row, out: &mut [u8]) -> Answer
+    ensures { λ r. ⌜ r ≡ answerFor (handedOf (dataOfRow symbology mode row) (length (now (out .entry)))) (modulesWithin symbology row) ⌝ }
+    ensures { λ _. ⌜ now (out .exit) ≡ written (dataOfRow symbology mode row) (now (out .entry)) ⌝ }
 {
     let handed = rows::data_of(symbology, mode, row, out);
     match handed {
         Handed::Turned(answer) => answer,
-        Handed::Data(bytes) => Answer::HandedBack(bytes, Modules(modules_in(strip))),
+        Handed::Data(bytes) => Answer::HandedBack(
+            bytes,
+            Modules(lengths::modules_of(symbology, row)),
+        ),
     }
-}
-
-// The modules of a strip: the sum of its elements.
-fn modules_in(strip: &[u8]) -> usize
-    requires { ⌜ length (now strip) ≤ 339 ⌝ }
-    ensures { λ r. ⌜ r ≡ sum (now (strip .entry)) ⌝ }
-{
-    let mut total: u32 = 0;
-    let mut i = 0;
-    while i < strip.len() {
-        total += strip[i] as u32;
-        i += 1;
-    }
-    total as usize
 }

@@ -6,13 +6,13 @@
 --   Either39, either39    Code 39, plain or full ASCII: the two draw alike
 --   even-count    Interleaved: an even number
 --   pairs-within  each digit's row lies within the text
---   not-end, at-start    which character is at an end
+--   not-end, at-start    which character is at an end; codabar-fits, what may stand there
 --   Lettered, lettered-row    Codabar: a letter, others, a letter; long-codabar, letters-within, at least three, their rows within the text
 --   codabar-built, interleaved-built    the calls that put these two together
 --
 -- Assumes nothing.
 use mathlib.Core.Path.{_≡_, refl, sym, ap, _∙_}
-use mathlib.Core.Bool.{Bool, true, false, _&&_}
+use mathlib.Core.Bool.{Bool, true, false}
 use mathlib.Core.List.{List, [], _∷_, _++_}
 use Prim.Native.Nat.{ℕ, suc, _+_, _*_, _-_, _/_, _<_, _≤_}
 use native.Mathlib.Omega.{arith}
@@ -20,19 +20,17 @@ use lib.Dec.{lit<, lit≤}
 use lib.ListN.{length, getD, take}
 use lib.Seq.{length-take-le, take-suc}
 use borrow.Author.Tests.{ltb-true}
-use Rattle.laws.specs.Spelling.{atEnd}
+use Rattle.laws.specs.Spelling.{ends, stands, isEnd, fitting}
 use Rattle.laws.proofs.Finite.{both-left, both-right, from-at}
 use Rattle.laws.proofs.Spelling.{Below}
 use Rattle.tables.specs.Code39.{chars39, alphabet39}
 use Rattle.tables.specs.TwoOfFive.{table44, alphabetDigits}
-use Rattle.rows.specs.Coders.{placed}
-use Rattle.rows.specs.Symbologies.{symbologies, symbologyOf}
-use Rattle.units.specs.Plans.{plans, planOf, unitsOf, stripOf}
-use Rattle.units.specs.Totals.{totals, elementsOf}
-use Rattle.units.specs.Laid.{counted, allowed, allAllowed, ready}
+use Rattle.symbologies.specs.Coders.{placed, lettered}
+use Rattle.symbologies.specs.Symbologies.{symbologies, symbologyOf}
+use Rattle.symbologies.specs.Strips.{elementsOf, unitsOf, stripOf, counted, allAllowed, ready}
+use Rattle.symbologies.proofs.Counted.{counted-codabar, counted-even}
+use Rattle.symbologies.proofs.Ready.{ready-counted, ready-allowed, ready-below, letter-high, letter-low}
 use Rattle.units.specs.Room.{cut, unitsIn, Within, pairsIn, textCodabar, textInterleaved}
-use Rattle.units.proofs.Counted.{counted-codabar, counted-even}
-use Rattle.units.proofs.Ready.{ready-counted, ready-allowed, ready-below, letter-high, letter-low}
 use Rattle.units.proofs.Putting.{follow, three}
 use Rattle.units.proofs.Parts.{within-below, stripCodabar, stripInterleaved}
 
@@ -52,20 +50,11 @@ pub record Either39 (s n : ℕ) (r : List ℕ) : Type 0 where
   pub elements39 : elementsOf s n ≡ elementsOf 1 n
   pub strip39 : stripOf 1 r ≡ stripOf s r
 
-full-allowed : (start : Bool) (r : List ℕ) → allAllowed 2 start r ≡ allAllowed 1 start r
-unfolding symbologyOf symbologies
-full-allowed start [] = refl
-full-allowed start (c ∷ cs) = ap (λ (b : Bool). allowed 1 (atEnd start cs) c && b) (full-allowed false cs)
-
-full-ready : (r : List ℕ) → ready 2 r ≡ ready 1 r
-unfolding ready counted symbologyOf symbologies
-full-ready r = ap (λ (b : Bool). counted 1 (length r) && b) (full-allowed true r)
-
 pub either39 : (n : ℕ) (r : List ℕ) (s : ℕ) → 1 ≤ s → s < 3 → Either39 s n r
-unfolding elementsOf totals stripOf unitsOf planOf plans
+unfolding ready counted elementsOf stripOf unitsOf symbologyOf symbologies
 either39 n r =
     from-at (λ s. Either39 s n r) 1 2
-    (record { ready39 = λ e. e; elements39 = refl; strip39 = refl }, (record { ready39 = λ e. sym (full-ready r) ∙ e; elements39 = refl; strip39 = refl }, tt))
+    (record { ready39 = λ e. e; elements39 = refl; strip39 = refl }, (record { ready39 = λ e. e; elements39 = refl; strip39 = refl }, tt))
 
 -- Industrial to UPC-A
 pub below-digits : (s : ℕ) → 4 ≤ s → s < 10 → (r : List ℕ) → ready s r ≡ true → Below 10 r
@@ -87,7 +76,7 @@ pairs-within codes n h e = rw (← even-count codes n h e) (within-below 57 0 5 
 pub interleaved-built : (codes t e₁ e₂ e₃ : List ℕ) (n a b : ℕ) → n ≤ length codes → ready 5 (take n codes) ≡ true → t ≡ textInterleaved
     → take 4 e₁ ≡ cut t 50 4 → a ≡ 4 → take (a + 10 * (n / 2)) e₂ ≡ take a e₁ ++ pairsIn t (take (2 * (n / 2)) codes) → b ≡ a + 10 * (n / 2)
     → take (b + 3) e₃ ≡ take b e₂ ++ cut t 54 3 → take (elementsOf 5 n) e₃ ≡ stripOf 5 (take n codes)
-unfolding elementsOf totals
+unfolding elementsOf symbologyOf symbologies
 interleaved-built codes t e₁ e₂ e₃ n a b h e q x d y g w =
     let even : n ≡ 2 * (n / 2) = even-count codes n h e in
     let l : length (take n codes) ≡ n = length-take-le n codes h in
@@ -108,30 +97,34 @@ pub record Lettered (front : List ℕ) (z : ℕ) : Type 0 where
   pub last : placed true z ≡ true
 
 -- what has a character behind it is not the last, and the first is at an end
-pub not-end : (mid : List ℕ) (z : ℕ) → atEnd false (mid ++ (z ∷ [])) ≡ false
+pub not-end : (mid : List ℕ) (z : ℕ) → ends (mid ++ (z ∷ [])) ≡ false
 not-end [] z = refl
 not-end (c ∷ mid) z = refl
 
-pub at-start : (r : List ℕ) → atEnd true r ≡ true
+pub at-start : (r : List ℕ) → isEnd (stands true r) ≡ true
 at-start [] = refl
 at-start (c ∷ cs) = refl
 
-inner-last : (mid : List ℕ) (z : ℕ) → allAllowed 3 false (mid ++ (z ∷ [])) ≡ true → Below 16 mid × (placed true z ≡ true)
+pub codabar-fits : (start : Bool) (r : List ℕ) → allAllowed 3 start r ≡ fitting lettered start r
+unfolding symbologyOf symbologies
+codabar-fits start r = refl
+
+inner-last : (mid : List ℕ) (z : ℕ) → fitting lettered false (mid ++ (z ∷ [])) ≡ true → Below 16 mid × (placed true z ≡ true)
 inner-last [] z e = (tt, both-left (placed true z) true e)
 inner-last (c ∷ mid) z e =
-    let i : Below 16 mid × (placed true z ≡ true) = inner-last mid z (both-right (allowed 3 (atEnd false (mid ++ (z ∷ []))) c) _ e) in
-    let p : placed false c ≡ true = rw (not-end mid z) at (both-left (allowed 3 (atEnd false (mid ++ (z ∷ []))) c) (allAllowed 3 false (mid ++ (z ∷ []))) e) in
+    let i : Below 16 mid × (placed true z ≡ true) = inner-last mid z (both-right (lettered (stands false (mid ++ (z ∷ []))) c) _ e) in
+    let p : placed false c ≡ true = rw (not-end mid z) at (both-left (lettered (stands false (mid ++ (z ∷ []))) c) (fitting lettered false (mid ++ (z ∷ []))) e) in
     ((ltb-true c 16 p, i .0), i .1)
 
-lettered : (front : List ℕ) (z : ℕ) → 0 < length front → allAllowed 3 true (front ++ (z ∷ [])) ≡ true → Lettered front z
-lettered [] z h e = absurd (omega arith)
-lettered (a ∷ mid) z h e =
-    let i : Below 16 mid × (placed true z ≡ true) = inner-last mid z (both-right (allowed 3 (atEnd true (mid ++ (z ∷ []))) a) _ e) in
+letters-in : (front : List ℕ) (z : ℕ) → 0 < length front → fitting lettered true (front ++ (z ∷ [])) ≡ true → Lettered front z
+letters-in [] z h e = absurd (omega arith)
+letters-in (a ∷ mid) z h e =
+    let i : Below 16 mid × (placed true z ≡ true) = inner-last mid z (both-right (lettered (stands true (mid ++ (z ∷ []))) a) _ e) in
     record {
       a = a;
       mid = mid;
       is = refl;
-      first = rw (at-start (mid ++ (z ∷ []))) at (both-left (allowed 3 (atEnd true (mid ++ (z ∷ []))) a) (allAllowed 3 false (mid ++ (z ∷ []))) e);
+      first = rw (at-start (mid ++ (z ∷ []))) at (both-left (lettered (stands true (mid ++ (z ∷ []))) a) (fitting lettered false (mid ++ (z ∷ []))) e);
       inner = i .0;
       last = i .1;
     }
@@ -148,8 +141,8 @@ long-codabar codes n h e = counted-codabar n (count 3 codes n h e) .0
 pub lettered-row : (codes : List ℕ) (n : ℕ) → n ≤ length codes → ready 3 (take n codes) ≡ true → Lettered (take (n - 1) codes) (getD codes (n - 1) 0)
 lettered-row codes n h e =
     let k : 3 ≤ n = long-codabar codes n h e in
-    lettered (take (n - 1) codes) (getD codes (n - 1) 0) (rw (length-take-le (n - 1) codes (omega arith)) (omega arith))
-    (rw (unsnoc codes n h (omega arith)) at (ready-allowed 3 (take n codes) e))
+    letters-in (take (n - 1) codes) (getD codes (n - 1) 0) (rw (length-take-le (n - 1) codes (omega arith)) (omega arith))
+    (rw (codabar-fits, unsnoc codes n h (omega arith)) at (ready-allowed 3 (take n codes) e))
 
 pub letters-within : (codes : List ℕ) (n : ℕ) → n ≤ length codes → ready 3 (take n codes) ≡ true
     → Within 160 0 8 (take (n - 1) codes) × (8 * getD codes (n - 1) 0 + 8 ≤ 160)
@@ -162,7 +155,7 @@ letters-within codes n h e =
 pub codabar-built : (codes t e₁ e₂ : List ℕ) (n a : ℕ) → n ≤ length codes → ready 3 (take n codes) ≡ true → t ≡ textCodabar
     → take (0 + 8 * (n - 1)) e₁ ≡ unitsIn t 0 8 (take (n - 1) codes) → a ≡ 0 + 8 * (n - 1)
     → take (a + 7) e₂ ≡ take a e₁ ++ cut t (8 * getD codes (n - 1) 0) 7 → take (elementsOf 3 n) e₂ ≡ stripOf 3 (take n codes)
-unfolding elementsOf totals
+unfolding elementsOf symbologyOf symbologies
 codabar-built codes t e₁ e₂ n a h e q x d y =
     let k : 3 ≤ n = long-codabar codes n h e in
     let z : ℕ = getD codes (n - 1) 0 in

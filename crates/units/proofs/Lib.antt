@@ -1,7 +1,3 @@
-pub mod Laying
-pub mod Counted
-pub mod Ready
-pub mod Totals
 pub mod Putting
 pub mod Parts
 pub mod Given

@@ -5,6 +5,7 @@
 --   Shows, units-of    a group that shows one character as elements of the text; n times: its rows one behind the other
 --   shows-parted, shows, shows-left, shows-odd    such groups: with a parting space, without, EAN's left sets
 --   ends39, endsIndustrial, endsMatrix    where start and stop stand
+--   rotated       a parting space before each unit and the rest, or one before the units and one behind each
 --   between-ends, built    a start, the characters, a stop, and the call that puts them there
 --   pairs-of      n pairs
 --   strip39, stripIndustrial, stripMatrix, stripCodabar, stripInterleaved, two-halves    the strip of each symbology
@@ -19,7 +20,7 @@ use native.Mathlib.Nat.{mul-le-mul-left, mul-suc}
 use lib.ListN.{length, getD, take, length-append}
 use Rattle.laws.specs.Elements.{alike}
 use Rattle.laws.specs.Units.{Kind, fixed, free, strip}
-use Rattle.laws.specs.Shapes.{many, shape, gap}
+use Rattle.laws.specs.Shapes.{many, gap}
 use Rattle.laws.proofs.Finite.{upto, upto-at, every, every-at}
 use Rattle.laws.proofs.Elements.{alike-true}
 use Rattle.laws.proofs.Spelling.{Below}
@@ -29,9 +30,10 @@ use Rattle.tables.specs.Code39.{table42, chars39, alphabet39, rows39, star39}
 use Rattle.tables.specs.Codabar.{table41, alphabetCodabar, innerRows, letterRows}
 use Rattle.tables.specs.TwoOfFive.{table44, alphabetDigits, digitRows, industrialRows, industrialStart, industrialStop, interleavedRows, interleavedStart, interleavedStop, matrixRows, matrixEnds}
 use Rattle.tables.specs.Ean.{table52, patterns, oddRows, evenRows, leftRows, rightRows, guard, centre}
+use Rattle.symbologies.specs.Parts.{partUnits, starred, lettering, industrial, interleaved, matrix, halved, lowered, paired}
+use Rattle.symbologies.specs.Symbologies.{symbologies, symbologyOf}
+use Rattle.symbologies.specs.Strips.{elementsOf, unitsOf, stripOf}
 use Rattle.units.specs.declared.layout.Ends.{Ends}
-use Rattle.units.specs.Plans.{code39, codabar, industrial, interleaved, matrix, halves, lettered, paired, plans, planOf, unitsOf, stripOf}
-use Rattle.units.specs.Totals.{elementsOf}
 use Rattle.units.specs.Room.{cut, parted, unitsIn, partedIn, Within, pairsIn, leftIn, rightIn, text39, textCodabar, textIndustrial, textInterleaved, textMatrix, textEan}
 
 -- ---- rows where they are cut
@@ -74,16 +76,20 @@ shows t base k rows e c h ks cs = rw (row-of t base k (λ r. r) rows e c h)
 
 -- ---- Code 39, Industrial, Matrix: a start, the characters, a stop, parted
 
+rotated : (n : ℕ) (a b : Kind) (rest : List Kind) → many n (a ∷ b ∷ []) (a ∷ rest) ≡ a ∷ many n (b ∷ a ∷ []) rest
+rotated zero a b rest = refl
+rotated (suc n) a b rest = ap (λ (x : List Kind). a ∷ b ∷ x) (rotated n a b rest)
+
 pub between-ends : (t : List ℕ) (k : ℕ) (e : Ends) (rows : List (List ℕ)) (start stop : List ℕ) → row-test t 0 k parted rows ≡ true
     → cut t (e .start) (e .long) ≡ parted start → cut t (e .stop) (e .short) ≡ stop → (r : List ℕ) → Below (length rows) r
-    → strip (fixed start ∷ gap ∷ many (length r) (free rows ∷ gap ∷ []) (fixed stop ∷ [])) r ≡ partedIn k e r t
+    → strip (fixed start ∷ many (length r) (gap ∷ free rows ∷ []) (gap ∷ fixed stop ∷ [])) r ≡ partedIn k e r t
 between-ends t k e rows start stop f a z r b =
     let u : strip (many (length r) (free rows ∷ gap ∷ []) (fixed stop ∷ [])) (r ++ []) ≡ unitsIn t 0 k r ++ (stop ++ [])
     = units-of t 0 k (length rows) (free rows ∷ gap ∷ []) (fixed stop ∷ []) (shows-parted t 0 k rows f) r [] b in
     let v : strip (many (length r) (free rows ∷ gap ∷ []) (fixed stop ∷ [])) r ≡ unitsIn t 0 k r ++ stop
     = ap (λ (x : List ℕ). strip (many (length r) (free rows ∷ gap ∷ []) (fixed stop ∷ [])) x) (sym (append-nil r))
     ∙ u ∙ ap (λ (x : List ℕ). unitsIn t 0 k r ++ x) (append-nil stop) in
-    rw (a, z)
+    rw (a, z, rotated (length r) gap (free rows) (fixed stop ∷ []))
     (ap (λ (x : List ℕ). start ++ ((1 ∷ []) ++ x)) v ∙ sym (append-assoc start (1 ∷ []) (unitsIn t 0 k r ++ stop))
     ∙ sym (append-assoc (parted start) (unitsIn t 0 k r) stop))
 
@@ -97,15 +103,15 @@ abbrev pub endsMatrix : Ends
 endsMatrix = record { start = 60; long = 6; stop = 60; short = 5 }
 
 pub strip39 : (r : List ℕ) → Below 43 r → stripOf 1 r ≡ partedIn 10 ends39 r text39
-unfolding stripOf unitsOf planOf plans code39 text39 rows39 star39 rowsOf bitsOf alphabet39 chars39 table42
+unfolding stripOf unitsOf symbologyOf symbologies starred text39 rows39 star39 rowsOf bitsOf alphabet39 chars39 table42
 strip39 = between-ends text39 10 ends39 rows39 star39 star39 refl refl refl
 
 pub stripIndustrial : (r : List ℕ) → Below 10 r → stripOf 4 r ≡ partedIn 10 endsIndustrial r textIndustrial
-unfolding stripOf unitsOf planOf plans industrial textIndustrial industrialRows industrialStart industrialStop digitRows rowsOf alphabetDigits table44
+unfolding stripOf unitsOf symbologyOf symbologies industrial textIndustrial industrialRows industrialStart industrialStop digitRows rowsOf alphabetDigits table44
 stripIndustrial = between-ends textIndustrial 10 endsIndustrial industrialRows industrialStart industrialStop refl refl refl
 
 pub stripMatrix : (r : List ℕ) → Below 10 r → stripOf 6 r ≡ partedIn 6 endsMatrix r textMatrix
-unfolding stripOf unitsOf planOf plans matrix textMatrix matrixRows matrixEnds digitRows rowsOf alphabetDigits table44
+unfolding stripOf unitsOf symbologyOf symbologies matrix textMatrix matrixRows matrixEnds digitRows rowsOf alphabetDigits table44
 stripMatrix = between-ends textMatrix 6 endsMatrix matrixRows matrixEnds matrixEnds refl refl refl
 
 -- the call that puts it there
@@ -128,20 +134,20 @@ letter-alone : (c : ℕ) → c < 4 → cut textCodabar (128 + 8 * c) 7 ≡ getD 
 unfolding textCodabar innerRows letterRows rowsOf alphabetCodabar table41
 letter-alone c h = alike-true _ _ (every-at [] (λ c row. alike (cut textCodabar (128 + 8 * c) 7) row) letterRows refl c h)
 
-lettered-inner : (mid : List ℕ) (z : ℕ) → lettered false (mid ++ (z ∷ [])) ≡ mid ++ ((z - 16) ∷ [])
-lettered-inner [] z = refl
-lettered-inner (c ∷ []) z = refl
-lettered-inner (c ∷ d ∷ mid) z = ap (λ (x : List ℕ). c ∷ x) (lettered-inner (d ∷ mid) z)
+lowered-inner : (mid : List ℕ) (z : ℕ) → lowered false (mid ++ (z ∷ [])) ≡ mid ++ ((z - 16) ∷ [])
+lowered-inner [] z = refl
+lowered-inner (c ∷ []) z = refl
+lowered-inner (c ∷ d ∷ mid) z = ap (λ (x : List ℕ). c ∷ x) (lowered-inner (d ∷ mid) z)
 
-lettered-all : (a : ℕ) (mid : List ℕ) (z : ℕ) → lettered true (a ∷ (mid ++ (z ∷ []))) ≡ (a - 16) ∷ (mid ++ ((z - 16) ∷ []))
-lettered-all a [] z = refl
-lettered-all a (c ∷ mid) z = ap (λ (x : List ℕ). (a - 16) ∷ x) (lettered-inner (c ∷ mid) z)
+lowered-all : (a : ℕ) (mid : List ℕ) (z : ℕ) → lowered true (a ∷ (mid ++ (z ∷ []))) ≡ (a - 16) ∷ (mid ++ ((z - 16) ∷ []))
+lowered-all a [] z = refl
+lowered-all a (c ∷ mid) z = ap (λ (x : List ℕ). (a - 16) ∷ x) (lowered-inner (c ∷ mid) z)
 
 inner-count : (mid : List ℕ) (a z : ℕ) → length (a ∷ (mid ++ (z ∷ []))) - 2 ≡ length mid
 inner-count mid a z = let e : length (mid ++ (z ∷ [])) ≡ length mid + 1 = length-append mid (z ∷ []) in omega arith
 
 abbrev codabarUnits : ℕ → List Kind
-codabarUnits n = free letterRows ∷ gap ∷ many n (free innerRows ∷ gap ∷ []) (free letterRows ∷ [])
+codabarUnits n = free letterRows ∷ many n (gap ∷ free innerRows ∷ []) (gap ∷ free letterRows ∷ [])
 
 codabar-parts : (l y : ℕ) (mid : List ℕ) → l < 4 → y < 4 → Below 16 mid
     → strip (codabarUnits (length mid)) (l ∷ (mid ++ (y ∷ []))) ≡ cut textCodabar (128 + 8 * l) 8 ++ unitsIn textCodabar 0 8 mid ++ cut textCodabar (128 + 8 * y) 7
@@ -149,19 +155,20 @@ codabar-parts l y mid h k b =
     let u : strip (many (length mid) (free innerRows ∷ gap ∷ []) (free letterRows ∷ [])) (mid ++ (y ∷ [])) ≡ unitsIn textCodabar 0 8 mid ++ (getD letterRows y [] ++ [])
     = units-of textCodabar 0 8 16 (free innerRows ∷ gap ∷ []) (free letterRows ∷ []) shows-inner mid (y ∷ []) b in
     let v : getD letterRows y [] ++ [] ≡ cut textCodabar (128 + 8 * y) 7 = append-nil (getD letterRows y []) ∙ sym (letter-alone y k) in
-    ap (λ (x : List ℕ). getD letterRows l [] ++ ((1 ∷ []) ++ x)) (u ∙ ap (λ (x : List ℕ). unitsIn textCodabar 0 8 mid ++ x) v)
+    rw (rotated (length mid) gap (free innerRows) (free letterRows ∷ []))
+    (ap (λ (x : List ℕ). getD letterRows l [] ++ ((1 ∷ []) ++ x)) (u ∙ ap (λ (x : List ℕ). unitsIn textCodabar 0 8 mid ++ x) v)
     ∙ sym (append-assoc (getD letterRows l []) (1 ∷ []) (unitsIn textCodabar 0 8 mid ++ cut textCodabar (128 + 8 * y) 7))
     ∙ ap (λ (x : List ℕ). x ++ (unitsIn textCodabar 0 8 mid ++ cut textCodabar (128 + 8 * y) 7)) (sym (letter-parted l h))
-    ∙ sym (append-assoc (cut textCodabar (128 + 8 * l) 8) (unitsIn textCodabar 0 8 mid) (cut textCodabar (128 + 8 * y) 7))
+    ∙ sym (append-assoc (cut textCodabar (128 + 8 * l) 8) (unitsIn textCodabar 0 8 mid) (cut textCodabar (128 + 8 * y) 7)))
 
 pub stripCodabar : (a : ℕ) (mid : List ℕ) (z : ℕ) → 16 ≤ a → a < 20 → Below 16 mid → 16 ≤ z → z < 20
     → stripOf 3 (a ∷ (mid ++ (z ∷ []))) ≡ unitsIn textCodabar 0 8 (a ∷ mid) ++ cut textCodabar (8 * z) 7
-unfolding stripOf unitsOf planOf plans codabar
+unfolding stripOf unitsOf symbologyOf symbologies lettering
 stripCodabar a mid z ha ka b hz kz =
     let la : 128 + 8 * (a - 16) ≡ 0 + 8 * a = omega arith in
     let lz : 128 + 8 * (z - 16) ≡ 8 * z = omega arith in
-    ap (λ (n : ℕ). strip (codabarUnits n) (lettered true (a ∷ (mid ++ (z ∷ []))))) (inner-count mid a z)
-    ∙ ap (strip (codabarUnits (length mid))) (lettered-all a mid z)
+    ap (λ (n : ℕ). strip (codabarUnits n) (lowered true (a ∷ (mid ++ (z ∷ []))))) (inner-count mid a z)
+    ∙ ap (strip (codabarUnits (length mid))) (lowered-all a mid z)
     ∙ codabar-parts (a - 16) (z - 16) mid (omega arith) (omega arith) b
     ∙ ap (λ (n : ℕ). cut textCodabar n 8 ++ unitsIn textCodabar 0 8 mid ++ cut textCodabar (128 + 8 * (z - 16)) 7) la
     ∙ ap (λ (n : ℕ). unitsIn textCodabar 0 8 (a ∷ mid) ++ cut textCodabar n 7) lz
@@ -188,16 +195,12 @@ pairs-of (suc i) rest (a ∷ c ∷ r) l b =
 
 pub stripInterleaved : (r : List ℕ) → length r ≡ 2 * (length r / 2) → Below 10 r
     → stripOf 5 r ≡ cut textInterleaved 50 4 ++ pairsIn textInterleaved r ++ cut textInterleaved 54 3
-unfolding stripOf unitsOf planOf plans interleaved textInterleaved interleavedStart interleavedStop digitRows rowsOf alphabetDigits table44
+unfolding stripOf unitsOf symbologyOf symbologies interleaved textInterleaved interleavedStart interleavedStop digitRows rowsOf alphabetDigits table44
 stripInterleaved r e b =
     ap (λ (x : List ℕ). cut textInterleaved 50 4 ++ x) (pairs-of (length r / 2) (fixed interleavedStop ∷ []) r e b)
     ∙ sym (append-assoc (cut textInterleaved 50 4) (pairsIn textInterleaved r) (cut textInterleaved 54 3))
 
 -- ---- EAN and UPC: two halves
-
-many-append : (n : ℕ) (group rest more : List Kind) → many n group rest ++ more ≡ many n group (rest ++ more)
-many-append zero group rest more = refl
-many-append (suc n) group rest more = append-assoc group (many n group rest) more ∙ ap (λ (x : List Kind). group ++ x) (many-append n group rest more)
 
 four : (a b c d : List ℕ) → a ++ (b ++ (c ++ d)) ≡ a ++ b ++ c ++ d
 four a b c d = sym (append-assoc a b (c ++ d)) ∙ sym (append-assoc (a ++ b) c d)
@@ -214,19 +217,17 @@ pub shows-odd : Shows textEan 0 4 10 (free oddRows ∷ [])
 unfolding textEan oddRows evenRows rightRows guard centre patterns table52
 shows-odd = shows textEan 0 4 oddRows refl
 
-pub two-halves : (size : ℕ) (left : List (List ℕ)) → Shows textEan 0 4 size (free left ∷ []) → (cs ds : List ℕ) → Below size cs → Below 10 ds → length ds ≡ length cs
-    → strip (shape (halves (length cs) left) (length ds)) (cs ++ ds)
-    ≡ leftIn textEan cs ++ rightIn textEan ds
-unfolding halves textEan guard centre oddRows evenRows rightRows patterns table52
-two-halves size left s cs ds b c l =
-    let right : strip (many (length ds) (free rightRows ∷ []) (fixed guard ∷ [])) (ds ++ []) ≡ unitsIn textEan 80 4 ds ++ (guard ++ [])
-    = units-of textEan 80 4 10 (free rightRows ∷ []) (fixed guard ∷ []) shows-right ds [] c in
-    let all : strip (many (length cs) (free left ∷ []) (fixed centre ∷ many (length ds) (free rightRows ∷ []) (fixed guard ∷ []))) (cs ++ (ds ++ []))
-    ≡ unitsIn textEan 0 4 cs ++ (centre ++ strip (many (length ds) (free rightRows ∷ []) (fixed guard ∷ [])) (ds ++ []))
-    = units-of textEan 0 4 size (free left ∷ []) (fixed centre ∷ many (length ds) (free rightRows ∷ []) (fixed guard ∷ [])) s cs (ds ++ []) b in
-    let parts : strip (many (length cs) (free left ∷ []) (fixed centre ∷ many (length ds) (free rightRows ∷ []) (fixed guard ∷ []))) (cs ++ ds)
+pub two-halves : (size : ℕ) (left : List (List ℕ)) → Shows textEan 0 4 size (free left ∷ []) → (n k : ℕ) (cs ds : List ℕ) → length cs ≡ k → length ds ≡ k → Below size cs → Below 10 ds
+    → strip (partUnits n (halved k left)) (cs ++ ds) ≡ leftIn textEan cs ++ rightIn textEan ds
+unfolding halved textEan guard centre oddRows evenRows rightRows patterns table52
+two-halves size left s n k cs ds p q b c =
+    let right : strip (many k (free rightRows ∷ []) (fixed guard ∷ [])) (ds ++ []) ≡ unitsIn textEan 80 4 ds ++ (guard ++ [])
+    = rw q at (units-of textEan 80 4 10 (free rightRows ∷ []) (fixed guard ∷ []) shows-right ds [] c) in
+    let all : strip (many k (free left ∷ []) (fixed centre ∷ many k (free rightRows ∷ []) (fixed guard ∷ []))) (cs ++ (ds ++ []))
+    ≡ unitsIn textEan 0 4 cs ++ (centre ++ strip (many k (free rightRows ∷ []) (fixed guard ∷ [])) (ds ++ []))
+    = rw p at (units-of textEan 0 4 size (free left ∷ []) (fixed centre ∷ many k (free rightRows ∷ []) (fixed guard ∷ [])) s cs (ds ++ []) b) in
+    let parts : strip (many k (free left ∷ []) (fixed centre ∷ many k (free rightRows ∷ []) (fixed guard ∷ []))) (cs ++ ds)
     ≡ unitsIn textEan 0 4 cs ++ (cut textEan 123 5 ++ rightIn textEan ds)
     = rw (append-nil ds) at (all ∙ ap (λ (x : List ℕ). unitsIn textEan 0 4 cs ++ (centre ++ x)) right) in
-    rw (many-append (length cs) (free left ∷ []) (fixed centre ∷ []) (many (length ds) (free rightRows ∷ []) (fixed guard ∷ [])))
-    (ap (λ (x : List ℕ). cut textEan 120 3 ++ x) parts
-    ∙ four (cut textEan 120 3) (unitsIn textEan 0 4 cs) (cut textEan 123 5) (rightIn textEan ds))
+    ap (λ (x : List ℕ). cut textEan 120 3 ++ x) parts
+    ∙ four (cut textEan 120 3) (unitsIn textEan 0 4 cs) (cut textEan 123 5) (rightIn textEan ds)

@@ -1,42 +1,42 @@
--- How the code checks a row and counts its modules: test by test, and one character a turn.
+-- How the code checks a row: test by test, and one character a turn.
 --
 --   no-first, past-first    a conjunction by its first test: false where that fails, and else what is left
 --   first-of, past-of    a disjunction likewise
 --   asked        a mode gives a count exactly if the verdict on the count is no refusal; counted-is, some mode, one after the other
---   last-arm     the numbers that have no arm of their own: 7 and 9
 --   left-cons    the characters that are left, one of them taken
 --   too-low, too-high, passed, all-passed    the loop over characters of one range
 --   lettered-at    Codabar: the first, the inner ones, the last
---   ready-by, ready-rest, in-set    a row in the first n places of an array; past its count; outside Codabar, its characters
---   class-between    a Codabar character takes 12 to 14 modules
---   Sum, sum-start, sum-more, sum-end, codabar-some    the loop over Codabar's characters, and that it counts something
+--   ready-by, ready-rest    a row in the first n places of an array; past its count
+--   free-in, in-set    a set that is the same at every place; so outside Codabar
 --
 -- Assumes nothing.
 use mathlib.Core.Path.{_≡_, refl, sym, ap, _∙_}
 use mathlib.Core.Bool.{Bool, true, false, _&&_, _||_, not, and-true, and-assoc}
 use mathlib.Core.List.{List, [], _∷_, _++_}
-use Prim.Native.Nat.{ℕ, zero, suc, _+_, _*_, _-_, _<_, _≤_}
+use Prim.Native.Nat.{ℕ, zero, suc, _+_, _-_, _<_, _≤_}
 use native.Mathlib.Omega.{arith}
-use native.Mathlib.Nat.{zero-add}
 use native.Mathlib.Numerals.{add-one}
 use lib.Dec.{ltb, leb}
 use lib.ListN.{length, getD, take, drop}
 use lib.Seq.{length-take-le, drop-cons, take-suc}
 use borrow.Author.Tests.{lt-ltb, le-ltb, le-leb, lt-leb, ne-eqb}
-use Rattle.laws.specs.Search.{pick}
-use Rattle.laws.proofs.Arms.{Off}
+use Rattle.laws.specs.Spelling.{Place, stands, fitting}
+use Rattle.laws.proofs.Fitting.{Free}
+use Rattle.words.specs.declared.Answer.the-variants.{NoSymbology, NoMode, BadLength}
+use Rattle.words.specs.Order.{check, firstOf}
 use Rattle.tables.specs.Alphabet.{size}
-use Rattle.rows.specs.declared.drawing.Verdict.{Verdict}
-use Rattle.rows.specs.Limits.{offered}
-use Rattle.rows.specs.Symbologies.{symbologies, symbologyOf}
-use Rattle.rows.specs.Rows.{drawable}
-use Rattle.rows.specs.Held.{judge, judgedCount}
-use Rattle.units.specs.Laid.{counts, isGiven, counted, allAllowed, ready}
+use Rattle.symbologies.specs.declared.limits.Verdict.{Verdict}
+use Rattle.symbologies.specs.declared.limits.Verdict.the-variants.{Given, Turned}
+use Rattle.symbologies.specs.Limits.{offered, drawable}
+use Rattle.symbologies.specs.Coders.{lettered}
+use Rattle.symbologies.specs.Symbologies.{symbologies, symbologyOf}
+use Rattle.symbologies.specs.Strips.{counts, counted, allAllowed, ready}
+use Rattle.symbologies.specs.Told.{judgedCount}
+use Rattle.symbologies.proofs.Counted.{counted-by, by-number}
+use Rattle.symbologies.proofs.Ready.{free-set}
+use Rattle.units.specs.Laid.{isGiven}
 use Rattle.units.specs.Room.{allIn}
-use Rattle.units.specs.Totals.{ofCodabar}
-use Rattle.units.proofs.Ready.{counted-by, allowed-in}
-use Rattle.units.proofs.Counted.{counted-codabar, by-number}
-use Rattle.units.proofs.Given.{count, not-end, at-start}
+use Rattle.units.proofs.Given.{not-end, at-start, codabar-fits}
 
 -- ---- a conjunction by its first test, which a call answered
 
@@ -60,7 +60,7 @@ past-of x false b r e q t = e
 
 -- ---- counts
 
-judged-by : (known offers draws : Bool) → ((offers && draws) ≡ true → known ≡ true) → isGiven (judge (not known) (not offers) (not draws)) ≡ (offers && draws)
+judged-by : (known offers draws : Bool) → ((offers && draws) ≡ true → known ≡ true) → isGiven (firstOf Turned (check (not known) NoSymbology ∷ check (not offers) NoMode ∷ check (not draws) BadLength ∷ []) Given) ≡ (offers && draws)
 judged-by true true true f = refl
 judged-by true true false f = refl
 judged-by true false draws f = refl
@@ -71,7 +71,7 @@ judged-by false false draws f = refl
 judged : (s n m : ℕ) → m < 3 → isGiven (judgedCount s m n) ≡ counts (symbologyOf s) n m
 unfolding judgedCount symbologyOf symbologies
 judged s n m h =
-    judged-by (symbologyOf s .limits .known) (offered (symbologyOf s .limits) m) (drawable (symbologyOf s) m n)
+    judged-by (symbologyOf s .limits .known) (offered (symbologyOf s .limits) m) (drawable (symbologyOf s .limits) m n)
     (λ e. by-number (λ s. symbologyOf s .limits .known ≡ true) (refl, (refl, (refl, (refl, (refl, (refl, (refl, (refl, (refl, tt))))))))) s n (counted-by s n m h e))
 
 -- what the code asks of a mode: v is the verdict, r whether it is no refusal
@@ -81,24 +81,6 @@ asked s n m h v r e q = q ∙ ap isGiven e ∙ judged s n m h
 pub counted-is : (s n : ℕ) → counted s n ≡ (counts (symbologyOf s) n 0 || (counts (symbologyOf s) n 1 || counts (symbologyOf s) n 2))
 unfolding counted
 counted-is s n = refl
-
--- ---- the arm that takes more than one number
-
-pub last-arm : (P : ℕ → Type 0) → P 7 → P 9 → (s n : ℕ) → counted s n ≡ true → 3 ≤ s → Off (8 ∷ 6 ∷ 5 ∷ 4 ∷ 3 ∷ []) s → P s
-last-arm P p q =
-    by-number (λ s. 3 ≤ s → Off (8 ∷ 6 ∷ 5 ∷ 4 ∷ 3 ∷ []) s → P s) (
-      λ h o. absurd (omega arith),
-      (
-        λ h o. absurd (omega arith),
-        (
-          λ h o. absurd (o .0 .0 .0 .0 .1 refl),
-          (
-            λ h o. absurd (o .0 .0 .0 .1 refl),
-            (λ h o. absurd (o .0 .0 .1 refl), (λ h o. absurd (o .0 .1 refl), (λ h o. p, (λ h o. absurd (o .1 refl), (λ h o. q, tt))))),
-          ),
-        ),
-      ),
-    )
 
 -- ---- the characters that are left
 
@@ -123,9 +105,9 @@ module _ (low high : ℕ) (codes : List ℕ) (i to : ℕ) where
 
 -- ---- Codabar's letters
 
-ends : (cs : List ℕ) (z : ℕ) → allAllowed 3 false (cs ++ z ∷ []) ≡ (allIn 0 16 cs && allIn 16 20 (z ∷ []))
-ends [] z = refl
-ends (c ∷ cs) z = rw (not-end cs z, ends cs z, le-leb 0 c (omega arith)) (sym (and-assoc (ltb c 16) (allIn 0 16 cs) (allIn 16 20 (z ∷ []))))
+letters-last : (cs : List ℕ) (z : ℕ) → fitting lettered false (cs ++ z ∷ []) ≡ (allIn 0 16 cs && allIn 16 20 (z ∷ []))
+letters-last [] z = refl
+letters-last (c ∷ cs) z = rw (not-end cs z, letters-last cs z, le-leb 0 c (omega arith)) (sym (and-assoc (ltb c 16) (allIn 0 16 cs) (allIn 16 20 (z ∷ []))))
 
 pub lettered-at : (codes : List ℕ) (n : ℕ) → 2 ≤ n → n ≤ length codes
     → allAllowed 3 true (take n codes)
@@ -137,7 +119,7 @@ lettered-at (c ∷ cs) (suc (suc m)) h l =
     let a : suc (suc m) - 1 ≡ suc m = omega arith in
     let b : suc m - 1 ≡ m = omega arith in
     let d : suc (suc m) - suc m ≡ 1 = omega arith in
-    rw (a, b, d, at-start (take (suc m) cs), take-suc cs m 0 (omega arith), ends, drop-cons cs m 0 (omega arith), and-true (leb 16 c && ltb c 20)) refl
+    rw (codabar-fits, a, b, d, at-start (take (suc m) cs), take-suc cs m 0 (omega arith), letters-last, drop-cons cs m 0 (omega arith), and-true (leb 16 c && ltb c 20)) refl
 
 -- ---- a row in the first n places
 
@@ -149,41 +131,14 @@ pub ready-rest : (s : ℕ) (codes : List ℕ) (n : ℕ) (r : Bool) → n ≤ len
     → allAllowed s true (take n codes) ≡ ready s (take n codes)
 ready-rest s codes n r h e f = sym (past-first _ _ _ _ (ready-by s codes n h) e f)
 
+-- a set that is the same at every place
+free-in : (allowed : Place → ℕ → Bool) (n : ℕ) → Free allowed n → (start : Bool) (r : List ℕ) → fitting allowed start r ≡ allIn 0 n r
+free-in allowed n f start [] = refl
+free-in allowed n f start (c ∷ cs) = rw (f (stands start cs) c, free-in allowed n f false cs, le-leb 0 c (omega arith)) refl
+
 -- outside Codabar the whole row is asked for by one call
 pub in-set : (s : ℕ) (codes : List ℕ) (n k : ℕ) (t : Bool) → (s ≡ 3 → ⊥) → k ≡ size (symbologyOf s .alphabet) → t ≡ allIn 0 k (take (n - 0) (drop 0 codes))
     → t ≡ allAllowed s true (take n codes)
 in-set s codes n k t h e q =
     let z : n - 0 ≡ n = omega arith in
-    (rw (z, e) at q) ∙ sym (allowed-in s true (take n codes) (ne-eqb s 3 h))
-
--- ---- Codabar's modules
-
-abbrev pub Sum : List ℕ → ℕ → ℕ → ℕ → Type 0
-Sum codes n sum i = (sum ≤ 14 * i) × (ofCodabar (take n codes) ≡ sum + ofCodabar (take (n - i) (drop i codes)))
-
-pub class-between : (b : Bool) → (12 ≤ pick b 12 14) × (pick b 12 14 ≤ 14)
-class-between true = (omega arith, omega arith)
-class-between false = (omega arith, omega arith)
-
-pub sum-start : (codes : List ℕ) (n : ℕ) → Sum codes n 0 0
-sum-start codes n = let e : n - 0 ≡ n = omega arith in (omega arith, rw (e, zero-add))
-
-pub sum-more : (codes : List ℕ) (n sum i r : ℕ) → i < n → n ≤ length codes → r ≡ pick (ltb (getD codes i 0) 12) 12 14 → Sum codes n sum i → Sum codes n (sum + r) (i + 1)
-sum-more codes n sum i r h k e s =
-    let q : ofCodabar (take n codes) ≡ sum + (pick (ltb (getD codes i 0) 12) 12 14 + ofCodabar (take (n - (i + 1)) (drop (i + 1) codes)))
-    = rw (left-cons codes i n h k) at (s .1) in
-    (omega (arith, class-between (ltb (getD codes i 0) 12) .1), omega arith)
-
-pub sum-end : (codes : List ℕ) (n sum i : ℕ) → n ≤ i → Sum codes n sum i → sum ≡ ofCodabar (take n codes)
-sum-end codes n sum i h s =
-    let e : n - i ≡ 0 = omega arith in
-    let q : ofCodabar (take n codes) ≡ sum + 0 = rw e at (s .1) in
-    omega arith
-
-some : (r : List ℕ) → 0 < length r → 0 < ofCodabar r
-some [] h = absurd (omega arith)
-some (c ∷ cs) h = omega (arith, class-between (ltb c 12) .0)
-
-pub codabar-some : (codes : List ℕ) (n : ℕ) → n ≤ length codes → ready 3 (take n codes) ≡ true → 0 < ofCodabar (take n codes)
-codabar-some codes n h e =
-    some (take n codes) (omega (arith, length-take-le n codes h, counted-codabar n (count 3 codes n h e) .0))
+    (rw (z, e) at q) ∙ sym (free-in (symbologyOf s .allowed) (size (symbologyOf s .alphabet)) (free-set s (ne-eqb s 3 h)) true (take n codes))

@@ -21,16 +21,15 @@ use lib.Seq.{getD-take, take-take, take-add, take-at, drop-at, take-suc, length-
 use borrow.Author.Tests.{ltb-true, ltb-false, lt-ltb, le-ltb}
 use Rattle.laws.specs.Search.{pick}
 use Rattle.laws.specs.Units.{free, strip}
-use Rattle.laws.specs.Shapes.{shape}
 use Rattle.laws.proofs.Spelling.{Below, below-at, below-split}
 use Rattle.tables.specs.Bits.{bit}
 use Rattle.tables.specs.Ean.{oddRows, leftRows, paritiesOf}
-use Rattle.units.specs.Plans.{halves, sides, sided, plans, planOf, unitsOf, stripOf}
-use Rattle.units.specs.Totals.{totals, elementsOf}
-use Rattle.units.specs.Laid.{ready}
+use Rattle.symbologies.specs.Parts.{partUnits, halved, sides, sided}
+use Rattle.symbologies.specs.Symbologies.{symbologies, symbologyOf}
+use Rattle.symbologies.specs.Strips.{elementsOf, unitsOf, stripOf, ready}
+use Rattle.symbologies.proofs.Counted.{counted-ean13, counted-ean8, counted-upc}
+use Rattle.symbologies.proofs.Ready.{Sided, sided-is}
 use Rattle.units.specs.Room.{sideAt, leftIn, rightIn, textEan}
-use Rattle.units.proofs.Counted.{counted-ean13, counted-ean8, counted-upc}
-use Rattle.units.proofs.Ready.{Sided, sided-is}
 use Rattle.units.proofs.Putting.{more}
 use Rattle.units.proofs.Parts.{Shows, shows-left, shows-odd, two-halves}
 use Rattle.units.proofs.Given.{count, below-digits}
@@ -113,12 +112,10 @@ back-long units half h = length-take-le half (drop half units) (rw length-drop (
 
 module _ (units : List ℕ) (half : ℕ) (h : half + half ≤ length units) where
   laid : (size : ℕ) (rows : List (List ℕ)) → Shows textEan 0 4 size (free rows ∷ []) → Below size (take half units) → Below 10 (take half (drop half units))
-      → strip (shape (halves half rows) half) (take (half + half) units) ≡ leftIn textEan (take half units) ++ rightIn textEan (take half (drop half units))
-  laid size rows s b c =
-      ap (strip (shape (halves half rows) half)) (split units half h)
-      ∙ ap (λ (n : ℕ). strip (shape (halves n rows) half) (take half units ++ take half (drop half units))) (sym (front-long units half h))
-      ∙ ap (λ (n : ℕ). strip (shape (halves (length (take half units)) rows) n) (take half units ++ take half (drop half units))) (sym (back-long units half h))
-      ∙ two-halves size rows s (take half units) (take half (drop half units)) b c (back-long units half h ∙ sym (front-long units half h))
+      → (n : ℕ) → strip (partUnits n (halved half rows)) (take (half + half) units) ≡ leftIn textEan (take half units) ++ rightIn textEan (take half (drop half units))
+  laid size rows s b c n =
+      ap (strip (partUnits n (halved half rows))) (split units half h)
+      ∙ two-halves size rows s n half (take half units) (take half (drop half units)) (front-long units half h) (back-long units half h) b c
 
   below-front : (n : ℕ) → Below n (take (half + half) units) → Below n (take half units)
   below-front n b = rw (take-at (take half units) (take half (drop half units)) half (front-long units half h)) at (below-split n half (take half units ++ take half (drop half units)) (rw (split units half h) at b) .0)
@@ -133,7 +130,7 @@ digits13 codes n h e =
 
 pub halves13 : (codes units : List ℕ) (n : ℕ) → n ≤ length codes → 12 ≤ length units → ready 7 (take n codes) ≡ true → take 12 units ≡ sided (take 13 codes)
     → Halves 7 n 6 (take n codes) units
-unfolding stripOf unitsOf planOf plans elementsOf totals
+unfolding halved stripOf unitsOf elementsOf symbologyOf symbologies
 halves13 codes units n h l e q =
     let n13 : n ≡ 13 = counted-ean13 n (count 7 codes n h e) in
     let w : Sided 6 (sided (take 13 codes)) 12 = sided-is (take 13 codes) (length-take-le 13 codes (omega arith)) (digits13 codes n h e) in
@@ -144,31 +141,31 @@ halves13 codes units n h l e q =
     record {
       left = f;
       right = g;
-      elements = refl;
-      is = rw n13 (ap (strip (shape (halves 6 leftRows) 6)) (sym q) ∙ laid units 6 l 20 leftRows shows-left f g);
+      elements = rw n13;
+      is = rw n13 (ap (strip (partUnits 13 (halved 6 leftRows))) (sym q) ∙ laid units 6 l 20 leftRows shows-left f g 13);
     }
 
 -- EAN-8 and UPC-A draw their digits as they stand
 plain-halves : (s n half : ℕ) (codes : List ℕ) → half + half ≤ length codes → n ≡ half + half → Below 10 (take n codes) → elementsOf s n ≡ 8 * half + 11
-    → stripOf s (take n codes) ≡ strip (shape (halves half oddRows) half) (take n codes) → Halves s n half (take n codes) codes
+    → stripOf s (take n codes) ≡ strip (partUnits (length (take n codes)) (halved half oddRows)) (take n codes) → Halves s n half (take n codes) codes
 plain-halves s n half codes l e b k q =
     let d : Below 10 (take (half + half) codes) = rw e at b in
     record {
       left = below-more (take half codes) (below-front codes half l 10 d);
       right = below-back codes half l 10 d;
       elements = k;
-      is = q ∙ ap (λ (n : ℕ). strip (shape (halves half oddRows) half) (take n codes)) e
-          ∙ laid codes half l 10 oddRows shows-odd (below-front codes half l 10 d) (below-back codes half l 10 d);
+      is = q ∙ ap (λ (k : ℕ). strip (partUnits (length (take n codes)) (halved half oddRows)) (take k codes)) e
+          ∙ laid codes half l 10 oddRows shows-odd (below-front codes half l 10 d) (below-back codes half l 10 d) (length (take n codes));
     }
 
 pub halves8 : (codes : List ℕ) (n : ℕ) → n ≤ length codes → ready 8 (take n codes) ≡ true → Halves 8 n 4 (take n codes) codes
-unfolding stripOf unitsOf planOf plans elementsOf totals
+unfolding stripOf unitsOf elementsOf symbologyOf symbologies
 halves8 codes n h e =
     let n8 : n ≡ 8 = counted-ean8 n (count 8 codes n h e) in
-    plain-halves 8 n 4 codes (omega arith) n8 (below-digits 8 (lit≤ tt) (lit< tt) (take n codes) e) refl refl
+    plain-halves 8 n 4 codes (omega arith) n8 (below-digits 8 (lit≤ tt) (lit< tt) (take n codes) e) (rw n8) refl
 
 pub halves12 : (codes : List ℕ) (n : ℕ) → n ≤ length codes → ready 9 (take n codes) ≡ true → Halves 9 n 6 (take n codes) codes
-unfolding stripOf unitsOf planOf plans elementsOf totals
+unfolding stripOf unitsOf elementsOf symbologyOf symbologies
 halves12 codes n h e =
     let n12 : n ≡ 12 = counted-upc n (count 9 codes n h e) in
-    plain-halves 9 n 6 codes (omega arith) n12 (below-digits 9 (lit≤ tt) (lit< tt) (take n codes) e) refl refl
+    plain-halves 9 n 6 codes (omega arith) n12 (below-digits 9 (lit≤ tt) (lit< tt) (take n codes) e) (rw n12) refl

@@ -1,4 +1,2 @@
-pub mod Plans
-pub mod Totals
 pub mod Room
 pub mod Laid

@@ -1,10 +1,14 @@
 // Whether a row is one of its symbology: its count and each character.
-use rows::Verdict;
+use symbologies::limits;
+use symbologies::limits::Verdict;
+use symbologies::sizes::PLACES;
 ghost use mathlib.Core.Path.{_≡_};
 ghost use mathlib.Core.Bool.{true};
 ghost use Prim.Native.Nat.{_-_, _≤_};
 ghost use lib.ListN.{length, take, drop};
-ghost use Rattle.units.specs.Laid.{isGiven, counted, allAllowed, ready};
+ghost use Rattle.symbologies.specs.Sizes.{places};
+ghost use Rattle.symbologies.specs.Strips.{counted, allAllowed, ready};
+ghost use Rattle.units.specs.Laid.{isGiven};
 ghost use Rattle.units.specs.Room.{allIn};
 
 // Whether a count passed.
@@ -21,18 +25,18 @@ fn is_given(verdict: Verdict) -> bool
 fn is_counted(symbology: u8, n: usize) -> bool
     ensures { λ r. ⌜ r ≡ counted symbology n ⌝ }
 {
-    if is_given(rows::judge_count(symbology, 0, n)) {
+    if is_given(limits::judge_count(symbology, 0, n)) {
         return true;
     }
-    if is_given(rows::judge_count(symbology, 1, n)) {
+    if is_given(limits::judge_count(symbology, 1, n)) {
         return true;
     }
-    is_given(rows::judge_count(symbology, 2, n))
+    is_given(limits::judge_count(symbology, 2, n))
 }
 
 // Whether the characters from one index up to another have values from `low` up to below `high`.
-fn all_in(codes: &[u8; 34], from: usize, to: usize, low: u8, high: u8) -> bool
-    requires { ⌜ (length (now codes) ≡ 34) × ((from ≤ to) × (to ≤ 34)) ⌝ }
+fn all_in(codes: &[u8; PLACES], from: usize, to: usize, low: u8, high: u8) -> bool
+    requires { ⌜ (length (now codes) ≡ places) × ((from ≤ to) × (to ≤ places)) ⌝ }
     ensures { λ r. ⌜ r ≡ allIn low high (take (to - from) (drop from (now (codes .entry)))) ⌝ }
 {
     let mut i = from;
@@ -49,8 +53,8 @@ fn all_in(codes: &[u8; 34], from: usize, to: usize, low: u8, high: u8) -> bool
 }
 
 // Codabar: letters at the ends, the other characters inside.
-fn is_lettered(codes: &[u8; 34], n: usize) -> bool
-    requires { ⌜ (length (now codes) ≡ 34) × ((2 ≤ n) × (n ≤ 34)) ⌝ }
+fn is_lettered(codes: &[u8; PLACES], n: usize) -> bool
+    requires { ⌜ (length (now codes) ≡ places) × ((2 ≤ n) × (n ≤ places)) ⌝ }
     ensures { λ r. ⌜ r ≡ allAllowed 3 true (take n (now (codes .entry))) ⌝ }
 {
     if !all_in(codes, 0, 1, 16, 20) {
@@ -63,8 +67,8 @@ fn is_lettered(codes: &[u8; 34], n: usize) -> bool
 }
 
 // Whether the first n codes are a row of the symbology.
-pub fn is_ready(symbology: u8, codes: &[u8; 34], n: usize) -> bool
-    requires { ⌜ (length (now codes) ≡ 34) × (n ≤ 34) ⌝ }
+pub fn is_ready(symbology: u8, codes: &[u8; PLACES], n: usize) -> bool
+    requires { ⌜ (length (now codes) ≡ places) × (n ≤ places) ⌝ }
     ensures { λ r. ⌜ r ≡ ready symbology (take n (now (codes .entry))) ⌝ }
 {
     if !is_counted(symbology, n) {
@@ -73,5 +77,5 @@ pub fn is_ready(symbology: u8, codes: &[u8; 34], n: usize) -> bool
     if symbology == 3 {
         return is_lettered(codes, n);
     }
-    all_in(codes, 0, n, 0, rows::size_of(symbology))
+    all_in(codes, 0, n, 0, limits::size_of(symbology))
 }

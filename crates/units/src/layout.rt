@@ -1,6 +1,8 @@
 // The strip of each symbology, built whole in the working room (document 01, "Two-width strips", "EAN and UPC strips").
 use super::room;
 use super::widths;
+use symbologies::sizes::LONGEST;
+use symbologies::sizes::PLACES;
 use words::ElementPlace;
 ghost use mathlib.Core.Path.{_≡_};
 ghost use mathlib.Core.Bool.{true};
@@ -8,9 +10,9 @@ ghost use mathlib.Core.List.{_++_};
 ghost use Prim.Native.Nat.{_+_, _*_, _<_, _≤_};
 ghost use lib.ListN.{length, take, drop};
 ghost use Rattle.laws.proofs.Spelling.{Below};
-ghost use Rattle.units.specs.Plans.{sided, stripOf};
-ghost use Rattle.units.specs.Totals.{elementsOf};
-ghost use Rattle.units.specs.Laid.{ready};
+ghost use Rattle.symbologies.specs.Sizes.{places, longest};
+ghost use Rattle.symbologies.specs.Parts.{sided};
+ghost use Rattle.symbologies.specs.Strips.{elementsOf, stripOf, ready};
 ghost use Rattle.units.specs.Room.{Within, partedIn, sideAt, leftIn, rightIn, textEan};
 
 // Where start and stop stand in a text of rows, and how long they are; the start has its parting space.
@@ -22,11 +24,18 @@ pub struct Ends {
 }
 
 // A start, units of k elements, their parting space among them, a stop.
-fn parted(room: &mut [u8; 339], text: &[u8], k: usize, ends: Ends, codes: &[u8; 34], n: usize)
-    requires { ⌜ (length (now room) ≡ 339) × ((length (now codes) ≡ 34) × ((n ≤ 34) × (length (now text) ≤ 440))) ⌝ }
-    requires { ⌜ (ends .long + k * n + ends .short ≤ 339) × ((ends .start + ends .long ≤ length (now text)) × (ends .stop + ends .short ≤ length (now text))) ⌝ }
+fn parted(
+    room: &mut [u8; LONGEST],
+    text: &[u8],
+    k: usize,
+    ends: Ends,
+    codes: &[u8; PLACES],
+    n: usize,
+)
+    requires { ⌜ (length (now room) ≡ longest) × ((length (now codes) ≡ places) × ((n ≤ places) × (length (now text) ≤ 440))) ⌝ }
+    requires { ⌜ (ends .long + k * n + ends .short ≤ longest) × ((ends .start + ends .long ≤ length (now text)) × (ends .stop + ends .short ≤ length (now text))) ⌝ }
     requires { ⌜ (0 < k) × Within (length (now text)) 0 k (take n (now codes)) ⌝ }
-    ensures { λ _. ⌜ length (now (room .exit)) ≡ 339 ⌝ }
+    ensures { λ _. ⌜ length (now (room .exit)) ≡ longest ⌝ }
     ensures { λ _. ⌜ take (ends .long + k * n + ends .short) (now (room .exit)) ≡ partedIn k ends (take n (now (codes .entry))) (now (text .entry)) ⌝ }
 {
     let a = room::put(room, ElementPlace(0), text, ends.start, ends.long);
@@ -35,9 +44,9 @@ fn parted(room: &mut [u8; 339], text: &[u8], k: usize, ends: Ends, codes: &[u8; 
 }
 
 // A star, the characters, a star, with a narrow space between each two.
-fn code39(room: &mut [u8; 339], codes: &[u8; 34], n: usize)
-    requires { ⌜ (length (now room) ≡ 339) × ((length (now codes) ≡ 34) × ((n ≤ 34) × (ready 1 (take n (now codes)) ≡ true))) ⌝ }
-    ensures { λ _. ⌜ length (now (room .exit)) ≡ 339 ⌝ }
+fn code39(room: &mut [u8; LONGEST], codes: &[u8; PLACES], n: usize)
+    requires { ⌜ (length (now room) ≡ longest) × ((length (now codes) ≡ places) × ((n ≤ places) × (ready 1 (take n (now codes)) ≡ true))) ⌝ }
+    ensures { λ _. ⌜ length (now (room .exit)) ≡ longest ⌝ }
     ensures { λ _. ⌜ take (elementsOf 1 n) (now (room .exit)) ≡ stripOf 1 (take n (now (codes .entry))) ⌝ }
 {
     let text = widths::code39();
@@ -51,9 +60,9 @@ fn code39(room: &mut [u8; 339], codes: &[u8; 34], n: usize)
 }
 
 // The characters, which start and stop themselves, with a narrow space between each two.
-fn codabar(room: &mut [u8; 339], codes: &[u8; 34], n: usize)
-    requires { ⌜ (length (now room) ≡ 339) × ((length (now codes) ≡ 34) × ((n ≤ 34) × (ready 3 (take n (now codes)) ≡ true))) ⌝ }
-    ensures { λ _. ⌜ length (now (room .exit)) ≡ 339 ⌝ }
+fn codabar(room: &mut [u8; LONGEST], codes: &[u8; PLACES], n: usize)
+    requires { ⌜ (length (now room) ≡ longest) × ((length (now codes) ≡ places) × ((n ≤ places) × (ready 3 (take n (now codes)) ≡ true))) ⌝ }
+    ensures { λ _. ⌜ length (now (room .exit)) ≡ longest ⌝ }
     ensures { λ _. ⌜ take (elementsOf 3 n) (now (room .exit)) ≡ stripOf 3 (take n (now (codes .entry))) ⌝ }
 {
     let text = widths::codabar();
@@ -63,9 +72,9 @@ fn codabar(room: &mut [u8; 339], codes: &[u8; 34], n: usize)
 }
 
 // The start, the digits, the stop, with a narrow space between each two.
-fn industrial(room: &mut [u8; 339], codes: &[u8; 34], n: usize)
-    requires { ⌜ (length (now room) ≡ 339) × ((length (now codes) ≡ 34) × ((n ≤ 34) × (ready 4 (take n (now codes)) ≡ true))) ⌝ }
-    ensures { λ _. ⌜ length (now (room .exit)) ≡ 339 ⌝ }
+fn industrial(room: &mut [u8; LONGEST], codes: &[u8; PLACES], n: usize)
+    requires { ⌜ (length (now room) ≡ longest) × ((length (now codes) ≡ places) × ((n ≤ places) × (ready 4 (take n (now codes)) ≡ true))) ⌝ }
+    ensures { λ _. ⌜ length (now (room .exit)) ≡ longest ⌝ }
     ensures { λ _. ⌜ take (elementsOf 4 n) (now (room .exit)) ≡ stripOf 4 (take n (now (codes .entry))) ⌝ }
 {
     let text = widths::industrial();
@@ -79,9 +88,9 @@ fn industrial(room: &mut [u8; 339], codes: &[u8; 34], n: usize)
 }
 
 // The start, the pairs, the stop.
-fn interleaved(room: &mut [u8; 339], codes: &[u8; 34], n: usize)
-    requires { ⌜ (length (now room) ≡ 339) × ((length (now codes) ≡ 34) × ((n ≤ 34) × (ready 5 (take n (now codes)) ≡ true))) ⌝ }
-    ensures { λ _. ⌜ length (now (room .exit)) ≡ 339 ⌝ }
+fn interleaved(room: &mut [u8; LONGEST], codes: &[u8; PLACES], n: usize)
+    requires { ⌜ (length (now room) ≡ longest) × ((length (now codes) ≡ places) × ((n ≤ places) × (ready 5 (take n (now codes)) ≡ true))) ⌝ }
+    ensures { λ _. ⌜ length (now (room .exit)) ≡ longest ⌝ }
     ensures { λ _. ⌜ take (elementsOf 5 n) (now (room .exit)) ≡ stripOf 5 (take n (now (codes .entry))) ⌝ }
 {
     let text = widths::interleaved();
@@ -91,9 +100,9 @@ fn interleaved(room: &mut [u8; 339], codes: &[u8; 34], n: usize)
 }
 
 // The start, the digits, the stop, with a narrow space between each two.
-fn matrix(room: &mut [u8; 339], codes: &[u8; 34], n: usize)
-    requires { ⌜ (length (now room) ≡ 339) × ((length (now codes) ≡ 34) × ((n ≤ 34) × (ready 6 (take n (now codes)) ≡ true))) ⌝ }
-    ensures { λ _. ⌜ length (now (room .exit)) ≡ 339 ⌝ }
+fn matrix(room: &mut [u8; LONGEST], codes: &[u8; PLACES], n: usize)
+    requires { ⌜ (length (now room) ≡ longest) × ((length (now codes) ≡ places) × ((n ≤ places) × (ready 6 (take n (now codes)) ≡ true))) ⌝ }
+    ensures { λ _. ⌜ length (now (room .exit)) ≡ longest ⌝ }
     ensures { λ _. ⌜ take (elementsOf 6 n) (now (room .exit)) ≡ stripOf 6 (take n (now (codes .entry))) ⌝ }
 {
     let text = widths::matrix();
@@ -118,12 +127,12 @@ fn side(parities: u16, i: usize) -> u8
 }
 
 // The twelve units that EAN-13 draws: its first digit stands in the sets of the six left ones.
-fn sides_of(codes: &[u8; 34]) -> [u8; 34]
-    requires { ⌜ (length (now codes) ≡ 34) × Below 10 (take 13 (now codes)) ⌝ }
+fn sides_of(codes: &[u8; PLACES]) -> [u8; PLACES]
+    requires { ⌜ (length (now codes) ≡ places) × Below 10 (take 13 (now codes)) ⌝ }
     ensures { λ r. ⌜ take 12 r ≡ sided (take 13 (now (codes .entry))) ⌝ }
 {
     let parities = tables::ean::parities_of(codes[0]);
-    let mut sides = [0; 34];
+    let mut sides = [0; PLACES];
     let mut i = 0;
     while i < 12 {
         sides[i] = 10 * side(parities, i) + codes[i + 1];
@@ -133,10 +142,10 @@ fn sides_of(codes: &[u8; 34]) -> [u8; 34]
 }
 
 // A guard, half the units, the centre.
-fn left(room: &mut [u8; 339], text: &[u8], codes: &[u8; 34], half: usize) -> ElementPlace
-    requires { ⌜ (length (now room) ≡ 339) × ((length (now codes) ≡ 34) × ((length (now text) ≡ 128) × ((half ≤ 6) × Below 20 (take half (now codes))))) ⌝ }
+fn left(room: &mut [u8; LONGEST], text: &[u8], codes: &[u8; PLACES], half: usize) -> ElementPlace
+    requires { ⌜ (length (now room) ≡ longest) × ((length (now codes) ≡ places) × ((length (now text) ≡ 128) × ((half ≤ 6) × Below 20 (take half (now codes))))) ⌝ }
     ensures { λ r. ⌜ r .0 ≡ 4 * half + 8 ⌝ }
-    ensures { λ _. ⌜ length (now (room .exit)) ≡ 339 ⌝ }
+    ensures { λ _. ⌜ length (now (room .exit)) ≡ longest ⌝ }
     ensures { λ _. ⌜ take (4 * half + 8) (now (room .exit)) ≡ leftIn (now (text .entry)) (take half (now (codes .entry))) ⌝ }
 {
     let a = room::put(room, ElementPlace(0), text, 120, 3);
@@ -145,10 +154,10 @@ fn left(room: &mut [u8; 339], text: &[u8], codes: &[u8; 34], half: usize) -> Ele
 }
 
 // The other half from the right set, a guard.
-fn right(room: &mut [u8; 339], at: ElementPlace, text: &[u8], codes: &[u8; 34], half: usize)
-    requires { ⌜ (length (now room) ≡ 339) × ((length (now codes) ≡ 34) × ((length (now text) ≡ 128) × ((half ≤ 6) × Below 10 (take half (drop half (now codes)))))) ⌝ }
+fn right(room: &mut [u8; LONGEST], at: ElementPlace, text: &[u8], codes: &[u8; PLACES], half: usize)
+    requires { ⌜ (length (now room) ≡ longest) × ((length (now codes) ≡ places) × ((length (now text) ≡ 128) × ((half ≤ 6) × Below 10 (take half (drop half (now codes)))))) ⌝ }
     requires { ⌜ at .0 ≤ 32 ⌝ }
-    ensures { λ _. ⌜ length (now (room .exit)) ≡ 339 ⌝ }
+    ensures { λ _. ⌜ length (now (room .exit)) ≡ longest ⌝ }
     ensures { λ _. ⌜ take (at .0 + (4 * half + 3)) (now (room .exit)) ≡ take (at .0) (now (room .entry)) ++ rightIn (now (text .entry)) (take half (drop half (now (codes .entry)))) ⌝ }
 {
     let a = room::put_units(room, at, text, 80, 4, codes, half, half);
@@ -156,9 +165,9 @@ fn right(room: &mut [u8; 339], at: ElementPlace, text: &[u8], codes: &[u8; 34], 
 }
 
 // The units in two halves, between guards and on both sides of the centre.
-fn halves(room: &mut [u8; 339], codes: &[u8; 34], half: usize)
-    requires { ⌜ (length (now room) ≡ 339) × ((length (now codes) ≡ 34) × ((half ≤ 6) × ((Below 20 (take half (now codes))) × (Below 10 (take half (drop half (now codes))))))) ⌝ }
-    ensures { λ _. ⌜ length (now (room .exit)) ≡ 339 ⌝ }
+fn halves(room: &mut [u8; LONGEST], codes: &[u8; PLACES], half: usize)
+    requires { ⌜ (length (now room) ≡ longest) × ((length (now codes) ≡ places) × ((half ≤ 6) × ((Below 20 (take half (now codes))) × (Below 10 (take half (drop half (now codes))))))) ⌝ }
+    ensures { λ _. ⌜ length (now (room .exit)) ≡ longest ⌝ }
     ensures { λ _. ⌜ take (8 * half + 11) (now (room .exit)) ≡ leftIn textEan (take half (now (codes .entry))) ++ rightIn textEan (take half (drop half (now (codes .entry)))) ⌝ }
 {
     let text = widths::ean();
@@ -167,9 +176,9 @@ fn halves(room: &mut [u8; 339], codes: &[u8; 34], half: usize)
 }
 
 // The strip of n characters.
-pub fn build(room: &mut [u8; 339], symbology: u8, codes: &[u8; 34], n: usize)
-    requires { ⌜ (length (now room) ≡ 339) × ((length (now codes) ≡ 34) × ((n ≤ 34) × (ready symbology (take n (now codes)) ≡ true))) ⌝ }
-    ensures { λ _. ⌜ length (now (room .exit)) ≡ 339 ⌝ }
+pub fn build(room: &mut [u8; LONGEST], symbology: u8, codes: &[u8; PLACES], n: usize)
+    requires { ⌜ (length (now room) ≡ longest) × ((length (now codes) ≡ places) × ((n ≤ places) × (ready symbology (take n (now codes)) ≡ true))) ⌝ }
+    ensures { λ _. ⌜ length (now (room .exit)) ≡ longest ⌝ }
     ensures { λ _. ⌜ take (elementsOf symbology n) (now (room .exit)) ≡ stripOf symbology (take n (now (codes .entry))) ⌝ }
 {
     match symbology {

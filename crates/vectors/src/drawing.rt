@@ -1,7 +1,8 @@
-// The vectors that are drawn: data or a field, and a room of 339 bytes or its first bytes.
+// The vectors that are drawn: data or a field, and a room for the longest strip or its first bytes.
 use crate::line;
 use crate::part;
 use crate::part::Form;
+use symbologies::sizes::LONGEST;
 
 // Draws the data from a word on, into the first `lent` bytes of the room.
 pub fn draw_text(vector: &[u8], symbology: u8, mode: u8, lent: usize, word: usize) {
@@ -15,8 +16,8 @@ pub fn draw_text(vector: &[u8], symbology: u8, mode: u8, lent: usize, word: usiz
 }
 
 fn draw_lent(vector: &[u8], symbology: u8, mode: u8, lent: usize, text: &[u8]) {
-    let mut room = [line::FILL; 339];
-    if lent > 339 {
+    let mut room = [line::FILL; LONGEST];
+    if lent > LONGEST {
         line::bad();
     } else {
         let answer = strip::draw(symbology, mode, text, &mut room[0..lent]);
@@ -39,7 +40,7 @@ pub fn draw_field(vector: &[u8], kind: u8, mode: u8) {
 }
 
 fn draw_counted(vector: &[u8], kind: u8, mode: u8, count: usize, field: &[u8]) {
-    let mut room = [line::FILL; 339];
+    let mut room = [line::FILL; LONGEST];
     if count >= part::NONE {
         line::bad();
     } else {

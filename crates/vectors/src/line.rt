@@ -1,6 +1,7 @@
 // A line of the output: a label, what a call answered, and what it left in the room, which was filled with FILL.
 use crate::part;
 use crate::part::Form;
+use symbologies::sizes::LONGEST;
 use words::Said;
 
 // No element is so wide, and no byte of data so high.
@@ -30,7 +31,7 @@ fn write_number(before: &[u8], n: u64) {
 }
 
 // The rest of the line, of a call that draws.
-pub fn show_strip(said: Said, room: &[u8; 339]) {
+pub fn show_strip(said: Said, room: &[u8; LONGEST]) {
     show(said, Form::Widths, room);
 }
 

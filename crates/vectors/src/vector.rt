@@ -3,6 +3,7 @@ use crate::drawing;
 use crate::line;
 use crate::part;
 use crate::reading;
+use symbologies::sizes::LONGEST;
 
 pub fn run(vector: &[u8]) {
     if vector.len() == 0 {
@@ -24,7 +25,7 @@ pub fn run(vector: &[u8]) {
 
 fn run_by_word(vector: &[u8], symbology: u8, mode: u8) {
     if part::begins(vector, b"draw ") {
-        drawing::draw_text(vector, symbology, mode, 339, 4);
+        drawing::draw_text(vector, symbology, mode, LONGEST, 4);
     } else if part::begins(vector, b"lent ") {
         drawing::draw_text(vector, symbology, mode, part::number(vector, 4), 5);
     } else if part::begins(vector, b"field ") {

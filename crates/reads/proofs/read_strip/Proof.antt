@@ -3,13 +3,12 @@
 use mathlib.Core.Path.{_∙_}
 use native.Mathlib.Omega.{arith}
 use borrow.Author.Needs.{needs}
-use Rattle.units.proofs.Counted.{counted-few}
 use Rattle.reads.proofs.Seeing.{stop-seen, all-seen, under-seen}
 use Rattle.reads.proofs.read_strip.Statement.{statement}
 use Rattle.reads.proofs.read_strip.Tie as tie
 
 unit-count-requires : tie.Need-unit-count-requires
-unit-count-requires c κs = counted-few _ _ (c .before .pre)
+unit-count-requires c κs = c .before .pre
 
 returns : tie.Need-returns
 returns c =
@@ -20,7 +19,7 @@ judge-requires : tie.Need-judge-requires
 judge-requires c κs =
     rw (c .words-of .ensures) (
       under-seen _ _ _ (c .before .before .before .before .before .before .before .before .pre) (c .before .before .before .before .before .read-all .result) _ (c .before .before .before .before .before .before .unit-count .ensures) (c .before .before .before .before .before .read-all .ensures) (omega (arith, c .before .before .if1 .left)),
-      counted-few _ _ (c .before .before .before .before .before .before .before .before .pre),
+      c .before .before .before .before .before .before .before .before .pre,
     )
 
 returns-2 : tie.Need-returns-2

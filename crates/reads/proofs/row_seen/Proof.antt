@@ -2,12 +2,12 @@
 -- Assumes nothing.
 use mathlib.Core.Path.{_∙_, sym}
 use borrow.Author.Needs.{needs}
-use Rattle.reads.proofs.Seeing.{given-counted, turned-seen, given-seen}
+use Rattle.reads.proofs.Seeing.{given-few, turned-seen, given-seen}
 use Rattle.reads.proofs.row_seen.Statement.{statement}
 use Rattle.reads.proofs.row_seen.Tie as tie
 
 read-strip-requires : tie.Need-read-strip-requires
-read-strip-requires c κs = given-counted _ _ _ (sym (c .before .before .judge-count .ensures) ∙ c .enum-told .given .1)
+read-strip-requires c κs = given-few _ _ _ (sym (c .before .before .judge-count .ensures) ∙ c .enum-told .given .1)
 
 returns : tie.Need-returns
 returns c =

@@ -1,8 +1,8 @@
--- `char_of`: each arm is one line of the definition.
+-- `char_of`: each arm is what its symbology shows.
 -- Assumes nothing.
 use borrow.Author.Needs.{needs}
-use borrow.Author.Tests.{ne-eqb}
-use Rattle.reads.specs.Seen.{charOf}
+use Rattle.symbologies.specs.Symbologies.{symbologies, symbologyOf}
+use Rattle.reads.proofs.Characters.{plain-shows}
 use Rattle.reads.proofs.chars.char_of.Statement.{statement}
 use Rattle.reads.proofs.chars.char_of.Tie as tie
 
@@ -10,10 +10,9 @@ side-requires : tie.Need-side-requires
 side-requires c κs = let p = c .before .pre in (p .1 .0 (c .match .keys3), p .1 .1 .0)
 
 returns-4 : tie.Need-returns-4
-unfolding charOf
 returns-4 c =
     let k = c .before .match .rest in
-    rw (c .value-at .ensures, ne-eqb _ 3 (k .0 .0 .1), ne-eqb _ 5 (k .0 .1), ne-eqb _ 7 (k .1))
+    rw (c .value-at .ensures, plain-shows _ (k .0 .0 .1) (k .0 .1) (k .1))
 
 pub char-of-spec : {M : Type 1} → statement M
 char-of-spec =
@@ -23,7 +22,7 @@ char-of-spec =
     (λ c κs. search needs)
     side-requires
     (λ c κs. search needs)
-    (λ c. unfold charOf in rw (c .letter .ensures, c .before .match .keys1))
-    (λ c. unfold charOf in rw (c .digit .ensures, c .before .match .keys2))
-    (λ c. unfold charOf in rw (c .side .ensures, c .before .match .keys3))
+    (λ c. unfold symbologyOf symbologies in rw (c .letter .ensures, c .before .match .keys1))
+    (λ c. unfold symbologyOf symbologies in rw (c .digit .ensures, c .before .match .keys2))
+    (λ c. unfold symbologyOf symbologies in rw (c .side .ensures, c .before .match .keys3))
     returns-4)

@@ -3,14 +3,15 @@
 use Prim.Native.Nat.{_-_}
 use native.Mathlib.Omega.{arith}
 use borrow.Author.Needs.{needs}
-use Rattle.reads.specs.Seen.{charOf, charsOf}
+use Rattle.symbologies.specs.Symbologies.{symbologyOf}
+use Rattle.symbologies.specs.Strips.{charsOf}
 use Rattle.reads.specs.Held.{valueAt}
 use Rattle.reads.proofs.Characters.{Drawn, none, next, full}
 use Rattle.reads.proofs.chars.row_back.Statement.{statement}
 use Rattle.reads.proofs.chars.row_back.Tie as tie
 
 abbrev Inv-loop : tie.InvT-loop
-Inv-loop symbology n words first codes₀ j₀ codes j = Drawn (charOf symbology n (valueAt words)) codes n j
+Inv-loop symbology n words first codes₀ j₀ codes j = Drawn (symbologyOf symbology .shows .char n (valueAt words)) codes n j
 
 abbrev μ-loop : tie.MeasureT-loop
 μ-loop symbology n words first codes₀ j₀ codes j = n - j

@@ -1,57 +1,73 @@
--- The first places of the row are copied, where the lent buffer has as many.
+-- `hand_over`: 12 by how far the reading came, 7 by the last character, 8 by the room, and then the data.
 -- Assumes nothing.
-use mathlib.Core.Path.{_≡_}
-use Prim.Native.Nat.{_≤_}
+use mathlib.Core.Logic.{⊎-elim}
 use native.Mathlib.Omega.{arith}
-use lib.ListN.{length}
-use lib.Seq.{length-take-le}
-use Rattle.rows.proofs.Back.{short, enough, copied}
 use borrow.Author.Needs.{needs}
+use Rattle.rows.proofs.Readings.{turned-away, too-short, handed-over, no-expansion, read-well, bad-check, plain-data, right-data}
 use Rattle.rows.proofs.reading.hand_over.Statement.{statement}
 use Rattle.rows.proofs.reading.hand_over.Tie as tie
 
 returns : tie.Need-returns
 returns c =
-    let a = c .before .before in
-    let long : length (a .args .text .codes) ≡ 34 = search needs in
-    let l : a .args .text .len ≤ length (a .args .text .codes) = omega (arith, a .pre) in
-    short (a .args .text .codes) (a .args .out .now) _ l (omega (arith, c .if1 .taken))
+    let a = c .before .before .before .before .before .before in
+    let m = c .before .before .before .measure in
+    turned-away _ _ _ (no-expansion (a .args .symbology) _ _ _ (a .pre) _ (c .before .before .before .before .spelling-count .ensures) (m .result) (m .ensures) (c .if1 .taken))
 
-array-share-prefix-codes : tie.Need-array-share-prefix-codes
-array-share-prefix-codes c =
-    let a = c .before .before .before in
-    let long : length (a .args .text .codes) ≡ 34 = search needs in
-    omega (arith, a .pre)
-
-slice-aggregate-copy : tie.Need-slice-aggregate-copy
-slice-aggregate-copy c =
-    let a = c .before .before .before .before in
-    let long : length (a .args .text .codes) ≡ 34 = search needs in
-    let l : a .args .text .len ≤ length (a .args .text .codes) = omega (arith, a .pre) in
-    omega (arith, length-take-le (a .args .text .len) (a .args .text .codes) l)
-
-copy-requires : tie.Need-copy-requires
-copy-requires c κs =
-    let a = c .before .before .before .before .before in
-    let long : length (a .args .text .codes) ≡ 34 = search needs in
-    let l : a .args .text .len ≤ length (a .args .text .codes) = omega (arith, a .pre) in
-    omega (arith, length-take-le (a .args .text .len) (a .args .text .codes) l)
+check-requires : tie.Need-check-requires
+check-requires c κs =
+    let a = c .before .before .before .before .before .before .before .before .before in
+    let m = c .before .before .before .before .before .before .measure in
+    let w = read-well (a .args .symbology) _ _ _ (a .pre) _ (c .before .before .before .before .before .before .before .spelling-count .ensures) (m .result) (m .ensures) (c .before .before .before .if1 .left) in
+    (w .sum .above, w .sum .byte)
 
 returns-2 : tie.Need-returns-2
 returns-2 c =
+    let a = c .before .before .before .before .before .before .before .before .before .before .before in
+    let m = c .before .before .before .before .before .before .before .before .measure in
+    turned-away _ _ _
+    (bad-check (a .args .symbology) _ _ _ (a .pre) _ (c .before .before .before .before .before .before .before .before .before .spelling-count .ensures) (m .result) (m .ensures) (c .before .before .before .before .before .if1 .left) (c .before .before .before .before .if2 .taken)
+    _ (c .before .check .ensures) (c .if3 .taken))
+
+-- the data, behind a right check or none
+returns-3 : tie.Need-returns-3
+returns-3 c =
     let a = c .before .before .before .before .before .before .before .before in
-    let long : length (a .args .text .codes) ≡ 34 = search needs in
-    let l : a .args .text .len ≤ length (a .args .text .codes) = omega (arith, a .pre) in
+    let k = c .before .before .before .before .before .before .spelling-count .ensures in
+    let m = c .before .before .before .before .before .measure in
+    let h = c .before .before .if1 .left in
+    let w = read-well (a .args .symbology) _ _ _ (a .pre) _ k (m .result) (m .ensures) h in
+    too-short _ _ (w .body) (⊎-elim (λ u. right-data (a .args .symbology) _ _ _ (a .pre) _ k (m .result) (m .ensures) h (u .0 .taken) _ (u .3 .ensures) (u .4 .left)) (λ u. plain-data (a .args .symbology) _ _ _ (a .pre) _ k (m .result) (m .ensures) h (u .left)) (c .before .if2 .came)) _ (w .bytes) (c .if4 .taken)
+
+write-text-requires : tie.Need-write-text-requires
+write-text-requires c κs =
+    let a = c .before .before .before .before .before .before .before .before .before in
+    let k = c .before .before .before .before .before .before .before .spelling-count .ensures in
+    let m = c .before .before .before .before .before .before .measure in
+    let w = read-well (a .args .symbology) _ _ _ (a .pre) _ k (m .result) (m .ensures) (c .before .before .before .if1 .left) in
+    ((omega (arith, k, a .pre .1 .0 .1), a .pre .1 .1), record { text = w .body; is = w .back; fits = omega (arith, w .bytes, c .before .if4 .left) })
+
+returns-4 : tie.Need-returns-4
+returns-4 c =
+    let a = c .before .before .before .before .before .before .before .before .before .before .before .before in
+    let k = c .before .before .before .before .before .before .before .before .before .before .spelling-count .ensures in
+    let m = c .before .before .before .before .before .before .before .before .before .measure in
     let h = c .before .before .before .before .before .before .if1 .left in
-    (enough (a .args .text .codes) (a .args .out .now) _ l h, copied (a .args .text .codes) (a .args .out .now) _ l h _ (c .before .before .copy .ensures .1))
+    let w = read-well (a .args .symbology) _ _ _ (a .pre) _ k (m .result) (m .ensures) h in
+    handed-over _ _ (w .body) (⊎-elim (λ u. right-data (a .args .symbology) _ _ _ (a .pre) _ k (m .result) (m .ensures) h (u .0 .taken) _ (u .3 .ensures) (u .4 .left)) (λ u. plain-data (a .args .symbology) _ _ _ (a .pre) _ k (m .result) (m .ensures) h (u .left)) (c .before .before .before .before .before .if2 .came)) _ (w .bytes) (c .before .before .before .before .if4 .left) _ (rw (w .back) at (c .before .before .write-text .ensures))
 
 pub hand-over-spec : {M : Type 1} → statement M
 hand-over-spec =
     tie.close
     (tie.spec
+    (λ c κs. search needs)
+    (λ c κs. search needs)
     returns
-    array-share-prefix-codes
-    slice-aggregate-copy
-    copy-requires
     (λ c. search needs)
-    returns-2)
+    (λ c. search needs)
+    check-requires
+    (λ c. search needs)
+    returns-2
+    returns-3
+    write-text-requires
+    (λ c. search needs)
+    returns-4)

@@ -7,8 +7,9 @@ use native.Mathlib.Omega.{arith}
 use lib.ListN.{take}
 use borrow.Author.Needs.{needs}
 use borrow.Author.Tests.{not-false}
-use Rattle.units.specs.Laid.{counted, allAllowed}
-use Rattle.units.proofs.Counted.{counted-codabar}
+use Rattle.symbologies.specs.Sizes.{places}
+use Rattle.symbologies.specs.Strips.{counted, allAllowed}
+use Rattle.symbologies.proofs.Counted.{counted-codabar}
 use Rattle.units.proofs.Passes.{no-first, ready-by, ready-rest, in-set}
 use Rattle.units.proofs.check.is_ready.Statement.{statement}
 use Rattle.units.proofs.check.is_ready.Tie as tie
@@ -22,7 +23,7 @@ is-lettered-requires : tie.Need-is-lettered-requires
 is-lettered-requires c κs =
     let d = c .before .before in
     let e : counted (d .before .args .symbology) (d .before .args .n) ≡ true = sym (d .is-counted .ensures) ∙ not-false _ (c .before .if1 .left) in
-    let k : (3 ≤ d .before .args .n) × (d .before .args .n ≤ 34) = counted-codabar (d .before .args .n) (rw (c .if2 .taken) at e) in
+    let k : (3 ≤ d .before .args .n) × (d .before .args .n ≤ places) = counted-codabar (d .before .args .n) (rw (c .if2 .taken) at e) in
     (omega arith, omega arith)
 
 returns-2 : tie.Need-returns-2

@@ -10,11 +10,10 @@ use lib.Dec.{lit≤}
 use lib.ListN.{length, take, drop}
 use borrow.Author.Needs.{needs}
 use Rattle.laws.proofs.Arms.{Off}
-use Rattle.units.specs.Plans.{stripOf}
-use Rattle.units.specs.Totals.{elementsOf}
-use Rattle.units.specs.Laid.{ready}
+use Rattle.symbologies.specs.Sizes.{places}
+use Rattle.symbologies.specs.Strips.{elementsOf, stripOf, ready}
+use Rattle.symbologies.proofs.Counted.{known}
 use Rattle.units.specs.Room.{leftIn, rightIn, textEan}
-use Rattle.units.proofs.Counted.{known}
 use Rattle.units.proofs.Given.{count, Either39, either39}
 use Rattle.units.proofs.Sides.{Halves, digits13, halves13, halves8, halves12}
 use Rattle.units.proofs.layout.build.Statement.{statement}
@@ -46,7 +45,7 @@ either f g (inr b) = g b
 halves-requires : tie.Need-halves-requires
 halves-requires c κs =
     let a = c .before .before .before .before in
-    let long : length (c .before .before .sides-of .result) ≡ 34 = search needs in
+    let long : length (c .before .before .sides-of .result) ≡ places = search needs in
     let h : Halves 7 (a .args .n) 6 (take (a .args .n) (a .args .codes .now)) (c .before .before .sides-of .result)
     = halves13 (a .args .codes .now) (c .before .before .sides-of .result) (a .args .n) (search needs) (omega arith)
     (ready-as (a .args .symbology) 7 (take (a .args .n) (a .args .codes .now)) (c .before .before .before .match .keys5) (a .pre .1 .1 .1)) (c .before .before .sides-of .ensures) in
@@ -86,7 +85,7 @@ halves-requires-3 c κs =
 returns-5 : tie.Need-returns-5
 returns-5 c =
     let a = c .before .before .before .before .before in
-    let long : length (c .before .before .before .sides-of .result) ≡ 34 = search needs in (
+    let long : length (c .before .before .before .sides-of .result) ≡ places = search needs in (
       c .halves .ensures .0,
       twice (a .args .symbology) 7 (a .args .n) 6 (take (a .args .n) (a .args .codes .now)) (c .before .before .before .sides-of .result) (c .halves .last .0) (c .before .before .before .before .match .keys5)
           (halves13 (a .args .codes .now) (c .before .before .before .sides-of .result) (a .args .n) (search needs) (omega arith)

@@ -6,10 +6,11 @@ use native.Mathlib.Omega.{arith}
 use lib.Dec.{lit<}
 use lib.ListN.{length, take}
 use borrow.Author.Needs.{needs}
-use Rattle.units.specs.Totals.{totals, elementsOf}
+use Rattle.symbologies.specs.Symbologies.{symbologies, symbologyOf}
+use Rattle.symbologies.specs.Strips.{elementsOf}
+use Rattle.symbologies.proofs.Counted.{counted-39}
 use Rattle.units.specs.Room.{text39}
 use Rattle.units.proofs.Parts.{within-below, ends39, strip39, built}
-use Rattle.units.proofs.Counted.{counted-39}
 use Rattle.units.proofs.Given.{few-chars, below39}
 use Rattle.units.proofs.layout.code39.Statement.{statement}
 use Rattle.units.proofs.layout.code39.Tie as tie
@@ -33,7 +34,7 @@ returns c =
     let t = c .before .before .before .code39 in (
       c .parted .ensures .0,
       built 1 10 ends39 text39 (t .result) (take (a .args .n) (a .args .codes .now)) (c .parted .last .0) (a .args .n) (t .ensures)
-          (strip39 (take (a .args .n) (a .args .codes .now)) (below39 (take (a .args .n) (a .args .codes .now)) (a .pre .1 .1 .1))) (unfold elementsOf totals in omega arith) (c .parted .ensures .1),
+          (strip39 (take (a .args .n) (a .args .codes .now)) (below39 (take (a .args .n) (a .args .codes .now)) (a .pre .1 .1 .1))) (unfold elementsOf symbologyOf symbologies in omega arith) (c .parted .ensures .1),
     )
 
 pub code39-spec : {M : Type 1} → statement M

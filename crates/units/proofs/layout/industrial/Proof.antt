@@ -6,10 +6,11 @@ use native.Mathlib.Omega.{arith}
 use lib.Dec.{lit<, lit≤}
 use lib.ListN.{length, take}
 use borrow.Author.Needs.{needs}
-use Rattle.units.specs.Totals.{totals, elementsOf}
+use Rattle.symbologies.specs.Symbologies.{symbologies, symbologyOf}
+use Rattle.symbologies.specs.Strips.{elementsOf}
+use Rattle.symbologies.proofs.Counted.{counted-industrial}
 use Rattle.units.specs.Room.{textIndustrial}
 use Rattle.units.proofs.Parts.{within-below, endsIndustrial, stripIndustrial, built}
-use Rattle.units.proofs.Counted.{counted-industrial}
 use Rattle.units.proofs.Given.{few-chars, below-digits}
 use Rattle.units.proofs.layout.industrial.Statement.{statement}
 use Rattle.units.proofs.layout.industrial.Tie as tie
@@ -33,7 +34,7 @@ returns c =
     let t = c .before .before .before .industrial in (
       c .parted .ensures .0,
       built 4 10 endsIndustrial textIndustrial (t .result) (take (a .args .n) (a .args .codes .now)) (c .parted .last .0) (a .args .n) (t .ensures)
-          (stripIndustrial (take (a .args .n) (a .args .codes .now)) (below-digits 4 (lit≤ tt) (lit< tt) (take (a .args .n) (a .args .codes .now)) (a .pre .1 .1 .1))) (unfold elementsOf totals in omega arith) (c .parted .ensures .1),
+          (stripIndustrial (take (a .args .n) (a .args .codes .now)) (below-digits 4 (lit≤ tt) (lit< tt) (take (a .args .n) (a .args .codes .now)) (a .pre .1 .1 .1))) (unfold elementsOf symbologyOf symbologies in omega arith) (c .parted .ensures .1),
     )
 
 pub industrial-spec : {M : Type 1} → statement M

@@ -6,10 +6,11 @@ use native.Mathlib.Omega.{arith}
 use lib.Dec.{lit<, lit≤}
 use lib.ListN.{length, take}
 use borrow.Author.Needs.{needs}
-use Rattle.units.specs.Totals.{totals, elementsOf}
+use Rattle.symbologies.specs.Symbologies.{symbologies, symbologyOf}
+use Rattle.symbologies.specs.Strips.{elementsOf}
+use Rattle.symbologies.proofs.Counted.{counted-matrix}
 use Rattle.units.specs.Room.{textMatrix}
 use Rattle.units.proofs.Parts.{within-below, endsMatrix, stripMatrix, built}
-use Rattle.units.proofs.Counted.{counted-matrix}
 use Rattle.units.proofs.Given.{few-chars, below-digits}
 use Rattle.units.proofs.layout.matrix.Statement.{statement}
 use Rattle.units.proofs.layout.matrix.Tie as tie
@@ -33,7 +34,7 @@ returns c =
     let t = c .before .before .before .matrix in (
       c .parted .ensures .0,
       built 6 6 endsMatrix textMatrix (t .result) (take (a .args .n) (a .args .codes .now)) (c .parted .last .0) (a .args .n) (t .ensures)
-          (stripMatrix (take (a .args .n) (a .args .codes .now)) (below-digits 6 (lit≤ tt) (lit< tt) (take (a .args .n) (a .args .codes .now)) (a .pre .1 .1 .1))) (unfold elementsOf totals in omega arith) (c .parted .ensures .1),
+          (stripMatrix (take (a .args .n) (a .args .codes .now)) (below-digits 6 (lit≤ tt) (lit< tt) (take (a .args .n) (a .args .codes .now)) (a .pre .1 .1 .1))) (unfold elementsOf symbologyOf symbologies in omega arith) (c .parted .ensures .1),
     )
 
 pub matrix-spec : {M : Type 1} → statement M

@@ -6,13 +6,14 @@ use native.Mathlib.Omega.{arith}
 use lib.ListN.{length, take, length-set}
 use lib.Seq.{take-all}
 use borrow.Author.Needs.{needs}
-use Rattle.units.specs.Plans.{sided}
+use Rattle.symbologies.specs.Sizes.{places}
+use Rattle.symbologies.specs.Parts.{sided}
 use Rattle.units.proofs.Sides.{side-small, digit-small, sided-long, sides-more}
 use Rattle.units.proofs.layout.sides_of.Statement.{statement}
 use Rattle.units.proofs.layout.sides_of.Tie as tie
 
 abbrev Inv-loop : tie.InvT-loop
-Inv-loop codes parities sides₀ i₀ sides i = (i ≤ 12) × (length sides ≡ 34) × (take i sides ≡ take i (sided (take 13 codes)))
+Inv-loop codes parities sides₀ i₀ sides i = (i ≤ 12) × (length sides ≡ places) × (take i sides ≡ take i (sided (take 13 codes)))
 
 abbrev μ-loop : tie.MeasureT-loop
 μ-loop codes parities sides₀ i₀ sides i = 12 - i

@@ -6,13 +6,14 @@ use Prim.Native.Nat.{_+_, _-_, _≤_}
 use native.Mathlib.Omega.{arith}
 use lib.ListN.{length, take, length-set}
 use borrow.Author.Needs.{needs}
+use Rattle.symbologies.specs.Sizes.{longest}
 use Rattle.units.specs.Room.{cut}
 use Rattle.units.proofs.Putting.{put-start, put-more}
 use Rattle.units.proofs.room.put.Statement.{statement}
 use Rattle.units.proofs.room.put.Tie as tie
 
 abbrev Inv-loop : tie.InvT-loop
-Inv-loop room₀ text from k p j₀ room j = (j ≤ k) × (length room ≡ 339) × (take (p + j) room ≡ take p room₀ ++ cut text from j)
+Inv-loop room₀ text from k p j₀ room j = (j ≤ k) × (length room ≡ longest) × (take (p + j) room ≡ take p room₀ ++ cut text from j)
 
 abbrev μ-loop : tie.MeasureT-loop
 μ-loop room₀ text from k p j₀ room j = k - j

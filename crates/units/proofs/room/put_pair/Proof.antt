@@ -7,13 +7,14 @@ use native.Mathlib.Omega.{arith}
 use lib.ListN.{length, take, set, length-set}
 use borrow.Author.Needs.{needs}
 use Rattle.tables.specs.Bits.{weave}
+use Rattle.symbologies.specs.Sizes.{longest}
 use Rattle.units.specs.Room.{cut}
 use Rattle.units.proofs.Putting.{pair-start, pair-more}
 use Rattle.units.proofs.room.put_pair.Statement.{statement}
 use Rattle.units.proofs.room.put_pair.Tie as tie
 
 abbrev Inv-loop : tie.InvT-loop
-Inv-loop room₀ text bars spaces p j₀ room j = (j ≤ 5) × (length room ≡ 339) × (take (p + 2 * j) room ≡ take p room₀ ++ weave (cut text bars j) (cut text spaces j))
+Inv-loop room₀ text bars spaces p j₀ room j = (j ≤ 5) × (length room ≡ longest) × (take (p + 2 * j) room ≡ take p room₀ ++ weave (cut text bars j) (cut text spaces j))
 
 abbrev μ-loop : tie.MeasureT-loop
 μ-loop room₀ text bars spaces p j₀ room j = 5 - j

@@ -6,6 +6,7 @@ use Prim.Native.Nat.{_+_, _*_, _-_, _≤_}
 use native.Mathlib.Omega.{arith}
 use lib.ListN.{length, getD, take}
 use borrow.Author.Needs.{needs}
+use Rattle.symbologies.specs.Sizes.{longest}
 use Rattle.units.specs.Room.{pairsIn}
 use Rattle.units.proofs.Putting.{both-end, pairs-start, pairs-more}
 use Rattle.units.proofs.room.put_pairs.Statement.{statement}
@@ -13,7 +14,7 @@ use Rattle.units.proofs.room.put_pairs.Tie as tie
 
 abbrev Inv-loop : tie.InvT-loop
 Inv-loop room₀ text codes n next₀ i₀ room next i =
-    (i ≤ n) × (length room ≡ 339) × (next .0 ≡ next₀ .0 + 10 * i) × (take (next₀ .0 + 10 * i) room ≡ take (next₀ .0) room₀ ++ pairsIn text (take (2 * i) codes))
+    (i ≤ n) × (length room ≡ longest) × (next .0 ≡ next₀ .0 + 10 * i) × (take (next₀ .0 + 10 * i) room ≡ take (next₀ .0) room₀ ++ pairsIn text (take (2 * i) codes))
 
 abbrev μ-loop : tie.MeasureT-loop
 μ-loop room₀ text codes n next₀ i₀ room next i = n - i

@@ -8,6 +8,7 @@ use native.Mathlib.Nat.{mul-suc, mul-zero}
 use native.Mathlib.Numerals.{add-one}
 use lib.ListN.{length, take, drop}
 use borrow.Author.Needs.{needs}
+use Rattle.symbologies.specs.Sizes.{longest}
 use Rattle.units.specs.Room.{unitsIn}
 use Rattle.units.proofs.Putting.{room-left, row-ends, row-small, units-start, units-more, units-end}
 use Rattle.units.proofs.room.put_units.Statement.{statement}
@@ -15,7 +16,7 @@ use Rattle.units.proofs.room.put_units.Tie as tie
 
 abbrev Inv-loop : tie.InvT-loop
 Inv-loop room₀ text base k codes first n next₀ i₀ room next i =
-    (i ≤ n) × (length room ≡ 339) × (next .0 ≡ next₀ .0 + k * i)
+    (i ≤ n) × (length room ≡ longest) × (next .0 ≡ next₀ .0 + k * i)
     × (take (next₀ .0 + k * i) room ≡ take (next₀ .0) room₀ ++ unitsIn text base k (take i (take n (drop first codes))))
 
 abbrev μ-loop : tie.MeasureT-loop

@@ -1,0 +1,103 @@
+-- `measure` reads back: the loop keeps what `Measuring` says, item by item.
+-- Assumes nothing.
+use mathlib.Core.Path.{_≡_, refl, sym, _∙_}
+use mathlib.Core.Logic.{⊎-elim, inl}
+use Prim.Native.Nat.{ℕ, _*_, _-_, _≤_}
+use native.Mathlib.Omega.{arith}
+use borrow.Author.Needs.{needs}
+use lib.ListN.{take}
+use Rattle.symbologies.specs.Sizes.{places}
+use Rattle.symbologies.specs.Symbologies.{symbologyOf}
+use Rattle.symbologies.proofs.Proper.{proper}
+use Rattle.rows.specs.Sums.{ownIn}
+use Rattle.rows.proofs.Sums.{small-more}
+use Rattle.rows.proofs.Measures.{Measuring, start, fits, few-bytes, refused, left-out, taken-up, ended}
+use Rattle.rows.proofs.items.measure.Statement.{statement}
+use Rattle.rows.proofs.items.measure.Tie as tie
+
+under : (n m : ℕ) → (n ≤ places) × (m ≡ places) → n ≤ m
+under n m h = omega (arith, h .0, h .1)
+
+abbrev Inv-loop : tie.InvT-loop
+Inv-loop symbology mode codes n own sum₀ bytes₀ at₀ sum bytes at = Measuring (symbologyOf symbology .coder mode) (ownIn mode n) (take n codes) sum₀ bytes at sum
+
+abbrev μ-loop : tie.MeasureT-loop
+μ-loop symbology mode codes n own sum₀ bytes₀ at₀ sum bytes at = n - at
+
+loop-holds : tie.Need-loop-holds Inv-loop μ-loop
+loop-holds c = start _ _ _ _ (c .start-of .ensures (c .before .own-of .result) (inl refl) .small)
+
+returns : tie.Need-returns Inv-loop μ-loop
+returns c =
+    let a = c .before .before .before .before .before .before .before in
+    refused (symbologyOf (a .args .symbology)) _ _ _ (under _ _ (a .pre .1)) _ _ _ _ (c .before .before .before .before .loop .inv) (c .before .before .before .loop-test .taken)
+    (c .before .before .item-at .result) (c .before .before .item-at .ensures) (c .if1 .taken)
+
+take-item-requires : tie.Need-take-item-requires Inv-loop μ-loop
+take-item-requires c κs =
+    let a = c .before .before .before .before .before .before .before .before in
+    let l = c .before .before .before .before .before .loop in
+    let w = fits (symbologyOf (a .args .symbology)) _ _ _ (under _ _ (a .pre .1)) _ _ _ _ (l .inv) (c .before .before .before .before .loop-test .taken)
+    (c .before .before .before .item-at .result) (c .before .before .before .item-at .ensures) in
+    (small-more (2 * l .at) 80 (l .sum) (omega (arith, c .before .before .before .before .loop-test .taken, a .pre .1 .0)) (l .inv .small), (a .pre .1 .1, (omega (arith, w .1 .0, a .pre .1 .0), (w .0, w .1 .1))))
+
+add-bytes : tie.Need-add-bytes Inv-loop μ-loop
+add-bytes c =
+    let a = c .before .before .before .before .before .before .before .before in
+    omega (
+      arith,
+      few-bytes (symbologyOf (a .args .symbology)) _ _ _ (under _ _ (a .pre .1)) _ _ _ _ (c .before .before .before .before .before .loop .inv) (c .before .before .before .before .loop-test .taken)
+          (c .before .before .before .item-at .result) (c .before .before .before .item-at .ensures),
+      a .pre .1 .0,
+    )
+
+add-at : tie.Need-add-at Inv-loop μ-loop
+add-at c =
+    let a = c .before .before .before .before .before .before .before .before .before in
+    omega (
+      arith,
+      fits (symbologyOf (a .args .symbology)) _ _ _ (under _ _ (a .pre .1)) _ _ _ _ (c .before .before .before .before .before .before .loop .inv) (c .before .before .before .before .before .loop-test .taken)
+          (c .before .before .before .before .item-at .result) (c .before .before .before .before .item-at .ensures) .1 .0,
+    )
+
+loop-less : tie.Need-loop-less Inv-loop μ-loop
+loop-less c =
+    let a = c .before .before .before .before .before .before .before .before .before in
+    let w = fits (symbologyOf (a .args .symbology)) _ _ _ (under _ _ (a .pre .1)) _ _ _ _ (c .before .before .before .before .before .before .loop .inv) (c .before .before .before .before .before .loop-test .taken)
+    (c .before .before .before .before .item-at .result) (c .before .before .before .before .item-at .ensures) in
+    omega (arith, w .0, w .1 .0)
+
+loop-again : tie.Need-loop-again Inv-loop μ-loop
+loop-again c =
+    let a = c .before .before .before .before .before .before .before .before .before in
+    let s = c .before .before .before .before .before .before .loop .inv in
+    let h = c .before .before .before .before .before .loop-test .taken in
+    let i = c .before .before .before .before .item-at in
+    let b = c .before .before .if1 .left in
+    let o = c .before .before .before .before .before .before .before .before .own-of .ensures in
+    ⊎-elim
+    (λ w. taken-up (symbologyOf (a .args .symbology)) _ _ _ (under _ _ (a .pre .1)) _ _ _ _ s h (i .result) (i .ensures) b (λ q. rw q (proper (a .args .symbology) .ends)) (λ q. w .0 .taken (q ∙ sym o)) _ (w .2 ∙ w .1 .ensures .0) (λ j k. rw (w .2) (w .1 .ensures .1 j k)))
+    (λ w. rw (w .1) (left-out (symbologyOf (a .args .symbology)) _ _ _ (under _ _ (a .pre .1)) _ _ _ _ s h (i .result) (i .ensures) b (w .0 .left ∙ o))) (c .before .if2 .came)
+
+returns-2 : tie.Need-returns-2 Inv-loop μ-loop
+returns-2 c =
+    let a = c .before .before .before .before in
+    ended (symbologyOf (a .args .symbology)) _ _ _ (under _ _ (a .pre .1)) _ _ _ _ (c .before .loop .inv) (c .before .before .start-of .ensures (ownIn (a .args .mode) (a .args .n)) (inl (sym (c .before .before .before .own-of .ensures)))) (c .loop-test .left)
+
+pub measure-spec : {M : Type 1} → statement M
+measure-spec =
+    tie.close
+    (tie.spec
+    Inv-loop
+    μ-loop
+    (λ c κs. search needs)
+    (λ c κs. search needs)
+    loop-holds
+    (λ c κs. (c .loop-test .taken, c .before .before .before .before .pre .1))
+    returns
+    take-item-requires
+    add-bytes
+    add-at
+    loop-less
+    loop-again
+    returns-2)

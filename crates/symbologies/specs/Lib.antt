@@ -1,0 +1,9 @@
+pub mod Sizes
+pub mod Limits
+pub mod Coders
+pub mod Checks
+pub mod Parts
+pub mod Symbologies
+pub mod Rows
+pub mod Strips
+pub mod Told

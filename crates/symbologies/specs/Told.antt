@@ -1,0 +1,41 @@
+-- What the calls answer, in the structs of src/.
+--
+--   pad, rowIn       a list in a row: its first entries as far as there are places, zeros behind them, and its length
+--   told             an outcome as the code holds it
+--   judgedCount      1, 2, 9, or nothing against it: whether a mode of a symbology can give so many drawn characters
+--   elementsWithin, modulesWithin    the elements of n characters, and the modules of a row; 0 where there are no such places
+use mathlib.Core.List.{List, [], _∷_}
+use Prim.Native.Nat.{ℕ, zero, suc}
+use lib.Dec.{leb}
+use lib.ListN.{length, take}
+use Rattle.laws.specs.Search.{pick}
+use Rattle.words.specs.Order.{firstOf, Outcome, gives, turned}
+use Rattle.symbologies.specs.declared.row.Row.{Row}
+use Rattle.symbologies.specs.declared.row.Rowed.{Rowed}
+use Rattle.symbologies.specs.declared.limits.Verdict.{Verdict}
+use Rattle.symbologies.specs.declared.limits.Verdict.the-variants.{Given, Turned}
+use Rattle.symbologies.specs.Sizes.{places}
+use Rattle.symbologies.specs.Symbologies.{symbologyOf}
+use Rattle.symbologies.specs.Rows.{countChecks}
+use Rattle.symbologies.specs.Strips.{elementsOf, modulesOf}
+
+abbrev pub pad : ℕ → List ℕ → List ℕ
+pad zero cs = []
+pad (suc n) [] = 0 ∷ pad n []
+pad (suc n) (c ∷ cs) = c ∷ pad n cs
+
+abbrev pub rowIn : List ℕ → Row
+rowIn cs = record { codes = pad places cs; len = length cs }
+
+abbrev pub told : Outcome → Rowed
+told (gives cs) = record { verdict = Given; row = rowIn cs }
+told (turned a) = record { verdict = Turned a; row = rowIn [] }
+
+unfoldable pub judgedCount : ℕ → ℕ → ℕ → Verdict
+judgedCount s m n = firstOf Turned (countChecks (symbologyOf s) m n) Given
+
+unfoldable pub elementsWithin : ℕ → ℕ → ℕ
+elementsWithin s n = pick (leb n places) (elementsOf s n) 0
+
+unfoldable pub modulesWithin : ℕ → Row → ℕ
+modulesWithin s row = pick (leb (row .len) places) (modulesOf s (take (row .len) (row .codes))) 0

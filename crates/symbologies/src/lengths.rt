@@ -1,0 +1,72 @@
+// How many elements and modules a row has, and the drawn count that a strip's length comes from: document 01's formulas, from the steps
+// and bases of its limits.
+use super::limits::limits_of;
+use super::row::Row;
+use super::sizes::LONGEST;
+use super::sizes::PLACES;
+ghost use mathlib.Core.Path.{_≡_};
+ghost use Rattle.symbologies.specs.Symbologies.{symbologyOf};
+ghost use Rattle.symbologies.specs.Strips.{countFor};
+ghost use Rattle.symbologies.specs.Told.{elementsWithin, modulesWithin};
+
+// The elements of n characters; 0 where there are no such places.
+pub fn elements_of(symbology: u8, n: usize) -> usize
+    ensures { λ r. ⌜ r ≡ elementsWithin symbology n ⌝ }
+{
+    if PLACES < n {
+        return 0;
+    }
+    let limits = limits_of(symbology);
+    let all = limits.step * n + limits.more;
+    if all == 0 { 0 } else { all - 1 }
+}
+
+// What a character has less than the most modules: Codabar's digits, - and $.
+fn less_of(symbology: u8, value: u8) -> usize
+    ensures { λ r. ⌜ r ≡ symbologyOf symbology .less value ⌝ }
+{
+    if symbology == 3 {
+        if value < 12 { 2 } else { 0 }
+    } else {
+        0
+    }
+}
+
+// The modules of a row; 0 where its number passes its places.
+pub fn modules_of(symbology: u8, row: Row) -> usize
+    ensures { λ r. ⌜ r ≡ modulesWithin symbology row ⌝ }
+{
+    let codes = row.codes;
+    let n = row.len;
+    if PLACES < n {
+        return 0;
+    }
+    let limits = limits_of(symbology);
+    let mut total = limits.rest;
+    let mut i = 0;
+    while i < n {
+        total += limits.each - less_of(symbology, codes[i]);
+        i += 1;
+    }
+    if total == 0 { 0 } else { total - 1 }
+}
+
+// The number of characters whose strip has so many elements; 0 where there is none.
+pub fn count_for(symbology: u8, long: usize) -> usize
+    ensures { λ r. ⌜ r ≡ countFor symbology long ⌝ }
+{
+    if LONGEST < long {
+        return 0;
+    }
+    let limits = limits_of(symbology);
+    let ends = long + 1;
+    if ends < limits.more {
+        return 0;
+    }
+    let n = (ends - limits.more) / limits.step;
+    if limits.step * n + limits.more == ends {
+        n
+    } else {
+        0
+    }
+}
