@@ -4,6 +4,7 @@
 --   as-drawn, as-for, as-shift    what is drawn and found at a place, and what begins a pair, is by the symbology of `drawnAs`, in mode 0
 --   drawn-first, drawn-full, drawn-third, drawn-others    what the four coders draw
 --   alone-first, alone-full, alone-third, alone-others    the byte that draws a character alone
+--   is-first, is-full, is-third, is-others    whether there is one
 --   shift-low, shift-from    /, + and % begin a pair of full ASCII, and no other character
 --   unshifted, unpaired      in no other symbology does one, and no byte draws a pair
 --   pair-full, pair-none     the byte that draws a pair of full ASCII; none behind another character
@@ -17,21 +18,23 @@ use native.Mathlib.Omega.{arith}
 use native.Mathlib.Decide.{ℕ-discrete, decLt}
 use lib.Dec.{eqb, ltb}
 use lib.ListN.{drop}
-use borrow.Author.Tests.{ne-eqb, lt-ltb, le-ltb}
+use borrow.Author.Tests.{ne-eqb, lt-ltb, le-ltb, ltb-true}
 use Rattle.laws.specs.Search.{pick, indexIn}
 use Rattle.laws.specs.Spelling.{Place, isEnd, Coder, byteFor}
 use Rattle.laws.proofs.Finite.{each-at, from-at}
 use Rattle.tables.specs.Alphabet.{valueOf, byteOf}
 use Rattle.tables.specs.Code39.{chars39, alphabet39}
-use Rattle.tables.specs.Codabar.{alphabetCodabar}
+use Rattle.tables.specs.Codabar.{table41, alphabetCodabar}
+use Rattle.tables.specs.FullAscii.{drawing, ranges}
 use Rattle.tables.specs.TwoOfFive.{table44, alphabetDigits}
 use Rattle.symbologies.specs.Limits.{unknown}
 use Rattle.symbologies.specs.Coders.{single, placed, plain, codabarCoder, shifts, fullCoder, rawCoder}
 use Rattle.symbologies.specs.Checks.{noCheck}
 use Rattle.symbologies.specs.Parts.{each}
 use Rattle.symbologies.specs.Symbologies.{Symbology, digits, symbologies, symbologyOf}
-use Rattle.symbologies.proofs.Coders.{back, for-same, full-none, full-places, alone39, alone-codabar, alone-digits, pair39, pair-codabar, pair-digits}
+use Rattle.symbologies.proofs.Coders.{byte-small, placed-in, back, for-same, full-none, full-places, alone39, alone-codabar, alone-digits, pair39, pair-codabar, pair-digits}
 use Rattle.coders.specs.Pieces.{drawnAs, edge}
+use Rattle.coders.proofs.Items.{owns, lost}
 
 -- ---- the coders
 
@@ -133,6 +136,37 @@ module _ (t : ℕ) (p : Place) where
 
   pub alone-others : (v w : ℕ) → (t ≡ 1 → ⊥) → (t ≡ 2 → ⊥) → (t ≡ 3 → ⊥) → w ≡ byteOf alphabetDigits v → pick (ltb v 10) w 256 ≡ byteFor (symbologyOf t .coder 0) p (v ∷ [])
   alone-others v w x y z h = rw (others t x y z, h) (sym (alone-digits p v))
+
+-- ---- whether a byte draws it
+
+told-by : (b : Bool) (x y : ℕ) → (b ≡ true → x < 256) → pick b x 256 ≡ y → b ≡ ltb y 256
+told-by true x y h e = rw (← e) (sym (lt-ltb x 256 (h refl)))
+told-by false x y h e = rw (← e)
+
+full-own-byte : (v : ℕ) → v < 256 → pick (ltb v 39) (byteOf alphabet39 v) 256 ≡ byteFor fullCoder edge (v ∷ [])
+unfolding byteOf fullCoder valueOf alphabet39 chars39 indexIn drawing ranges back
+full-own-byte v h = go (decLt v 39)
+  where
+    go : Dec (v < 39) → pick (ltb v 39) (byteOf alphabet39 v) 256 ≡ byteFor fullCoder edge (v ∷ [])
+    go (yes l) = rw (lt-ltb v 39 l) (owns [] 0 39 (λ v. v) (λ v. []) (byteOf alphabet39) refl v (omega arith) l tt)
+    go (no l) = rw (le-ltb v 39 (omega arith)) (lost [] 39 217 (λ v. v) (λ v. []) refl v (omega arith) h tt)
+
+module _ (t : ℕ) (p : Place) (v : ℕ) where
+  pub is-first : t ≡ 1 → ltb v 43 ≡ ltb (byteFor (symbologyOf t .coder 0) p (v ∷ [])) 256
+  unfolding alphabet39 chars39
+  is-first e = told-by (ltb v 43) (byteOf alphabet39 v) _ (λ q. byte-small alphabet39 refl v (ltb-true v 43 q)) (alone-first t p v _ e refl)
+
+  pub is-full : v < 256 → t ≡ 2 → ltb v 39 ≡ ltb (byteFor (symbologyOf t .coder 0) p (v ∷ [])) 256
+  unfolding alphabet39 chars39
+  is-full h e = told-by (ltb v 39) (byteOf alphabet39 v) _ (λ q. byte-small alphabet39 refl v (omega (arith, ltb-true v 39 q))) (full-own-byte v h ∙ alone-full t p v e)
+
+  pub is-third : (end ok : Bool) → t ≡ 3 → end ≡ isEnd p → ok ≡ placed end v → ok ≡ ltb (byteFor (symbologyOf t .coder 0) p (v ∷ [])) 256
+  unfolding alphabetCodabar table41
+  is-third end ok e h k = told-by ok (byteOf alphabetCodabar v) _ (λ q. byte-small alphabetCodabar refl v (placed-in end v (sym k ∙ q))) (alone-third t p end ok v _ e h k refl)
+
+  pub is-others : (t ≡ 1 → ⊥) → (t ≡ 2 → ⊥) → (t ≡ 3 → ⊥) → ltb v 10 ≡ ltb (byteFor (symbologyOf t .coder 0) p (v ∷ [])) 256
+  unfolding alphabetDigits table44
+  is-others x y z = told-by (ltb v 10) (byteOf alphabetDigits v) _ (λ q. byte-small alphabetDigits refl v (ltb-true v 10 q)) (alone-others t p v _ x y z refl)
 
 -- ---- the characters that begin a pair
 

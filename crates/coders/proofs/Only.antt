@@ -17,6 +17,8 @@ use Rattle.coders.proofs.is_nothing.Reads as IsNothing
 use Rattle.coders.proofs.is_nothing.Kinds as IsNothingKinds
 use Rattle.coders.proofs.alone.Reads as AloneByte
 use Rattle.coders.proofs.alone.Kinds as AloneByteKinds
+use Rattle.coders.proofs.is_alone.Reads as IsAlone
+use Rattle.coders.proofs.is_alone.Kinds as IsAloneKinds
 use Rattle.coders.proofs.is_shift.Reads as IsShift
 use Rattle.coders.proofs.is_shift.Kinds as IsShiftKinds
 use Rattle.coders.proofs.pair.Reads as PairByte
@@ -40,6 +42,9 @@ is-nothing κs a p q x y = only
 
 pub alone : One 0 AloneByteKinds.ps AloneByteKinds.r AloneByte.Learnt
 alone κs a p q x y = only
+
+pub is-alone : One 0 IsAloneKinds.ps IsAloneKinds.r IsAlone.Learnt
+is-alone κs a p q x y = only
 
 pub is-shift : One 0 IsShiftKinds.ps IsShiftKinds.r IsShift.Learnt
 is-shift κs a p q x y = only

@@ -119,6 +119,18 @@ pub fn alone(symbology: u8, mode: u8, first: bool, last: bool, value: u8) -> u16
     }
 }
 
+// Whether a byte draws a character alone.
+pub fn is_alone(symbology: u8, mode: u8, first: bool, last: bool, value: u8) -> bool
+    ensures { λ r. ⌜ r ≡ ltb (byteFor (symbologyOf symbology .coder mode) (record { first = first; last = last }) (value ∷ [])) 256 ⌝ }
+{
+    match drawn_as(symbology, mode, last) {
+        1 => value < 43,
+        2 => value < 39,
+        3 => is_placed(is_end(first, last), value),
+        _ => value < 10,
+    }
+}
+
 // Whether a character begins a pair, where the pair would be the last item or not.
 pub fn is_shift(symbology: u8, mode: u8, end: bool, value: u8) -> bool
     ensures { λ r. ⌜ r ≡ symbologyOf symbology .coder mode .shift end value ⌝ }

@@ -2,7 +2,9 @@
 --
 --   join-append, join-found, join-stopped    characters before a reading
 --   ends-at               what stands behind a place tells whether it is the last
---   item-two, item-one    the item at a place: a pair, or a character; two-taken, one-taken, its characters
+--   paired-two, paired-one, paired-has    whether the item at a place is a pair
+--   item-two, item-one    that item: a pair, or a character; two-taken, one-taken, its characters
+--   width-two, width-one  its width; drawn-width, no-width, by whether a byte draws it
 --   Passing        items are read back up to a place: `begin`, `item-next`, `item-refused`, `item-there`, `read-back`; width-fits, an item is
 --                  not empty and ends in time
 --   Measuring      with their number and the sum of the characters beside the check: `start`, `taken-up`, `left-out`, `refused`, `ended`
@@ -20,7 +22,7 @@ use native.Mathlib.Numerals.{add-one}
 use lib.Dec.{eqb, ltb}
 use lib.ListN.{length, getD, take, drop, set, length-append, length-take, length-drop, drop-of-length-le}
 use lib.Seq.{drop-cons, drop-drop, getD-take, length-take-le, take-all, take-take, take-add, set-at, append-snoc}
-use borrow.Author.Tests.{eq-eqb, ne-eqb, lt-ltb, le-ltb, ltb-true}
+use borrow.Author.Tests.{eq-eqb, ne-eqb, lt-ltb, le-ltb, ltb-true, ltb-false}
 use Rattle.laws.specs.Search.{pick}
 use Rattle.laws.specs.Units.{Reading, found, stopped, push}
 use Rattle.laws.specs.Spelling.{ends, stands, Coder, join, byteFor, gave, unspell}
@@ -33,7 +35,7 @@ use Rattle.symbologies.proofs.Asked.{EndsAlone}
 use Rattle.rows.specs.declared.check.Sum.{Sum}
 use Rattle.rows.specs.declared.items.Item.{Item}
 use Rattle.rows.specs.Sums.{Small, summed, Begins, ownIn}
-use Rattle.rows.specs.Held.{itemOf, MeasuredAs, Written}
+use Rattle.rows.specs.Held.{pairedAt, itemOf, widthOf, MeasuredAs, Written}
 use Rattle.rows.proofs.Sums.{small-more, summed-append, checks}
 
 -- ---- characters before a reading
@@ -88,19 +90,62 @@ module _ (k : Coder) (codes : List ℕ) (at n : ℕ) (h : at < n) (l : n ≤ len
       let e : suc (at + 1) ≡ at + 2 = omega arith in
       rw (drop-cons (take n codes) (at + 1) 0 (rw many i), getD-take n codes (at + 1) 0 i, e)
 
-  pub item-two : (b : ℕ) → at + 1 < n → k .shift (eqb (at + 2) n) (getD codes at 0) ≡ true
-      → b ≡ byteFor k (record { first = eqb at 0; last = eqb (at + 2) n }) (getD codes at 0 ∷ getD codes (at + 1) 0 ∷ []) → record { byte = b; width = 2 } ≡ itemOf k (eqb at 0) (drop at (take n codes))
-  item-two b i s e = rw (here, next-one i, ends-at (take n codes) (at + 2) n many (omega arith), s, e)
+  pub paired-two : (t : Bool) → at + 1 < n → t ≡ k .shift (eqb (at + 2) n) (getD codes at 0) → t ≡ pairedAt k (drop at (take n codes))
+  paired-two t i s =
+      s ∙ sym (ap (pairedAt k) (here ∙ ap (λ (l : List ℕ). getD codes at 0 ∷ l) (next-one i)) ∙ ap (λ (b : Bool). k .shift b (getD codes at 0)) (ends-at (take n codes) (at + 2) n many (omega arith)))
 
-  pub item-one : (b : ℕ) → (k .shift (eqb (at + 2) n) (getD codes at 0) ≡ false) ⊎ (n ≤ at + 1)
-      → b ≡ byteFor k (record { first = eqb at 0; last = eqb (at + 1) n }) (getD codes at 0 ∷ []) → record { byte = b; width = 1 } ≡ itemOf k (eqb at 0) (drop at (take n codes))
-  item-one b s e = rw (here, e, ← ends-at (take n codes) (at + 1) n many (omega arith)) (go (decLt (at + 1) n) s)
+  pub paired-one : n ≤ at + 1 → false ≡ pairedAt k (drop at (take n codes))
+  paired-one i = sym (ap (pairedAt k) (here ∙ ap (λ (l : List ℕ). getD codes at 0 ∷ l) (drop-of-length-le (take n codes) {i = at + 1} (omega (arith, many)))))
+
+  -- a pair has a neighbour
+  pub paired-has : pairedAt k (drop at (take n codes)) ≡ true → at + 1 < n
+  paired-has p = go (decLt (at + 1) n)
     where
-      go : Dec (at + 1 < n) → (k .shift (eqb (at + 2) n) (getD codes at 0) ≡ false) ⊎ (n ≤ at + 1)
+      go : Dec (at + 1 < n) → at + 1 < n
+      go (yes i) = i
+      go (no i) = absurd (let q : _≡_ {A = Bool} false true = paired-one (omega arith) ∙ p in let z : _≡_ {A = ℕ} 0 1 = cc in omega arith)
+
+  pub item-two : (b : ℕ) → pairedAt k (drop at (take n codes)) ≡ true
+      → b ≡ byteFor k (record { first = eqb at 0; last = eqb (at + 2) n }) (getD codes at 0 ∷ getD codes (at + 1) 0 ∷ []) → record { byte = b; width = 2 } ≡ itemOf k (eqb at 0) (drop at (take n codes))
+  item-two b p e =
+      let i : at + 1 < n = paired-has p in
+      let s : k .shift (eqb (at + 2) n) (getD codes at 0) ≡ true = paired-two _ i refl ∙ p in
+      rw (here, next-one i, ends-at (take n codes) (at + 2) n many (omega arith), s, e)
+
+  pub item-one : (b : ℕ) → pairedAt k (drop at (take n codes)) ≡ false
+      → b ≡ byteFor k (record { first = eqb at 0; last = eqb (at + 1) n }) (getD codes at 0 ∷ []) → record { byte = b; width = 1 } ≡ itemOf k (eqb at 0) (drop at (take n codes))
+  item-one b p e = rw (here, e, ← ends-at (take n codes) (at + 1) n many (omega arith)) (go (decLt (at + 1) n))
+    where
+      go : Dec (at + 1 < n)
           → record { byte = byteFor k (stands (eqb at 0) (drop (at + 1) (take n codes))) (getD codes at 0 ∷ []); width = 1 } ≡ itemOf k (eqb at 0) (getD codes at 0 ∷ drop (at + 1) (take n codes))
-      go (yes i) (inl f) = rw (next-one i, ends-at (take n codes) (at + 2) n many (omega arith), f)
-      go (yes i) (inr f) = absurd (omega arith)
-      go (no i) x = rw (drop-of-length-le (take n codes) {i = at + 1} (omega (arith, many)))
+      go (yes i) =
+          let f : k .shift (eqb (at + 2) n) (getD codes at 0) ≡ false = paired-two _ i refl ∙ p in
+          rw (next-one i, ends-at (take n codes) (at + 2) n many (omega arith), f)
+      go (no i) = rw (drop-of-length-le (take n codes) {i = at + 1} (omega (arith, many)))
+
+  -- the width, by whether a byte draws it
+  pub width-two : (b : ℕ) (t : Bool) → pairedAt k (drop at (take n codes)) ≡ true
+      → b ≡ byteFor k (record { first = eqb at 0; last = eqb (at + 2) n }) (getD codes at 0 ∷ getD codes (at + 1) 0 ∷ []) → ltb b 256 ≡ t → pick t 2 0 ≡ widthOf (itemOf k (eqb at 0) (drop at (take n codes)))
+  width-two b t p e q = rw (← item-two b p e, q)
+
+  pub width-one : (t : Bool) → pairedAt k (drop at (take n codes)) ≡ false
+      → ltb (byteFor k (record { first = eqb at 0; last = eqb (at + 1) n }) (getD codes at 0 ∷ [])) 256 ≡ t → pick t 1 0 ≡ widthOf (itemOf k (eqb at 0) (drop at (take n codes)))
+  width-one t p q = rw (← item-one _ p refl, q)
+
+-- an item that has a width is drawn, and the width is its own
+pub drawn-width : (i : Item) (w : ℕ) → w ≡ widthOf i → w ≢ 0 → (i .byte ≤ 255) × (i .width ≡ w)
+drawn-width i w e z = go (ltb (i .byte) 256) refl e
+  where
+    go : (t : Bool) → ltb (i .byte) 256 ≡ t → w ≡ pick t (i .width) 0 → (i .byte ≤ 255) × (i .width ≡ w)
+    go true q f = (omega (arith, ltb-true (i .byte) 256 q), sym f)
+    go false q f = absurd (z f)
+
+pub no-width : (i : Item) (w : ℕ) → w ≡ widthOf i → 0 < i .width → w ≡ 0 → 255 < i .byte
+no-width i w e h z = go (ltb (i .byte) 256) refl e
+  where
+    go : (t : Bool) → ltb (i .byte) 256 ≡ t → w ≡ pick t (i .width) 0 → 255 < i .byte
+    go true q f = absurd (omega arith)
+    go false q f = omega (arith, ltb-false (i .byte) 256 q)
 
 -- its characters, where it has one or two
 
@@ -242,48 +287,63 @@ module _ (y : Symbology) (mode : ℕ) (codes : List ℕ) (n : ℕ) (l : n ≤ le
   long : length cs ≡ n
   long = length-take-le n codes l
 
-  module _ (h : at < n) (i : Item) (e : i ≡ itemOf k (eqb at 0) (drop at cs)) where
-    pub fits : (0 < i .width) × ((at + i .width ≤ n) × (i .width ≤ 2))
-    fits = width-fits k cs (s .done) at n long (s .passing) h i e
+  module _ (h : at < n) (w : ℕ) (e : w ≡ widthOf (itemOf k (eqb at 0) (drop at cs))) where
+    abbrev i : Item
+    i = itemOf k (eqb at 0) (drop at cs)
+
+    wide-enough : (0 < i .width) × ((at + i .width ≤ n) × (i .width ≤ 2))
+    wide-enough = width-fits k cs (s .done) at n long (s .passing) h i refl
 
     pub few-bytes : bytes ≤ at
     few-bytes = omega (arith, s .bytes-are, s .passing .few)
 
-    pub refused : 255 < i .byte → MeasuredAs y mode cs (record { bytes = bytes; bad = charPlace at; sum = sum })
-    refused b =
-        let z : unspell k true 0 cs ≡ stopped at = item-refused k cs (s .done) at n long (s .passing) h i e b in
+    pub refused : w ≡ 0 → MeasuredAs y mode cs (record { bytes = bytes; bad = charPlace at; sum = sum })
+    refused q =
+        let z : unspell k true 0 cs ≡ stopped at = item-refused k cs (s .done) at n long (s .passing) h i refl (no-width i w e (wide-enough .0) q) in
         record { stop = λ j p. same-stop at j (sym z ∙ p); all = λ d p. absurd (never at d (sym z ∙ p)) }
 
-    module _ (b : i .byte ≤ 255) where
+    module _ (z : w ≢ 0) where
+      b : i .byte ≤ 255
+      b = drawn-width i w e z .0
+
+      same : i .width ≡ w
+      same = drawn-width i w e z .1
+
+      pub fits : (0 < w) × ((at + w ≤ n) × (w ≤ 2))
+      fits = (omega (arith, same, wide-enough .0), (omega (arith, same, wide-enough .1 .0), omega (arith, same, wide-enough .1 .1)))
+
+      next : Passing k cs (s .done ++ (i .byte ∷ [])) (at + w)
+      next = rw same at (item-next k cs (s .done) at n long (s .passing) h i refl b)
+
       -- the check in mode 1 is left out of the sum
-      pub left-out : at ≡ ownIn mode n → Measuring k (ownIn mode n) cs begun (bytes + 1) (at + i .width) sum
+      pub left-out : at ≡ ownIn mode n → Measuring k (ownIn mode n) cs begun (bytes + 1) (at + w) sum
       left-out o = record {
         done = s .done ++ (i .byte ∷ []);
-        passing = item-next k cs (s .done) at n long (s .passing) h i e b;
+        passing = next;
         bytes-are = rw length-append (omega (arith, s .bytes-are));
-        sum-is = s .sum-is ∙ ap (summed begun) (all at (omega arith) ∙ sym (all (at + i .width) (omega arith)));
-        small = small-more (2 * at) (2 * (at + i .width)) sum (omega arith) (s .small);
+        sum-is = s .sum-is ∙ ap (summed begun) (all at (omega arith) ∙ sym (all (at + w) (omega arith)));
+        small = small-more (2 * at) (2 * (at + w)) sum (omega arith) (s .small);
       }
         where
           all : (j : ℕ) → ownIn mode n ≤ j → take j (take (ownIn mode n) cs) ≡ take (ownIn mode n) cs
           all j g = take-all j (take (ownIn mode n) cs) (omega (arith, length-take (ownIn mode n) cs))
 
-      pub taken-up : (mode ≡ 1 → EndsAlone k) → at ≢ ownIn mode n → (new : Sum) → new ≡ summed sum (take (i .width) (drop at codes)) → ((j : ℕ) → Small j sum → Small (j + 2) new)
-          → Measuring k (ownIn mode n) cs begun (bytes + 1) (at + i .width) new
-      taken-up a o new u w =
-          let f : at + i .width ≤ ownIn mode n = before-own k cs (s .done) at n long (s .passing) h i e mode a b o in
+      pub taken-up : (mode ≡ 1 → EndsAlone k) → at ≢ ownIn mode n → (new : Sum) → new ≡ summed sum (take w (drop at codes)) → ((j : ℕ) → Small j sum → Small (j + 2) new)
+          → Measuring k (ownIn mode n) cs begun (bytes + 1) (at + w) new
+      taken-up a o new u g =
+          let f : at + w ≤ ownIn mode n = rw same at (before-own k cs (s .done) at n long (s .passing) h i refl mode a b o) in
           record {
             done = s .done ++ (i .byte ∷ []);
-            passing = item-next k cs (s .done) at n long (s .passing) h i e b;
+            passing = next;
             bytes-are = rw length-append (omega (arith, s .bytes-are));
             sum-is = u ∙ rw (s .sum-is, summed-append) (ap (summed begun) (sym (grown f)));
-            small = small-more (2 * at + 2) (2 * (at + i .width)) new (omega (arith, fits .0)) (w (2 * at) (s .small));
+            small = small-more (2 * at + 2) (2 * (at + w)) new (omega (arith, fits .0)) (g (2 * at) (s .small));
           }
         where
-          grown : at + i .width ≤ ownIn mode n → take (at + i .width) (take (ownIn mode n) cs) ≡ take at (take (ownIn mode n) cs) ++ take (i .width) (drop at codes)
+          grown : at + w ≤ ownIn mode n → take (at + w) (take (ownIn mode n) cs) ≡ take at (take (ownIn mode n) cs) ++ take w (drop at codes)
           grown f =
-              rw (take-take (at + i .width) (ownIn mode n) cs f, take-take at (ownIn mode n) cs (omega arith), take-take (at + i .width) n codes (fits .1 .0), take-take at n codes (omega arith))
-              (take-add at (i .width) codes)
+              rw (take-take (at + w) (ownIn mode n) cs f, take-take at (ownIn mode n) cs (omega arith), take-take (at + w) n codes (fits .1 .0), take-take at n codes (omega arith))
+              (take-add at w codes)
 
   pub ended : Begins (y .rule) (ownIn mode n) begun → n ≤ at → MeasuredAs y mode cs (record { bytes = bytes; bad = charPlace n; sum = sum })
   ended g h =

@@ -2,7 +2,7 @@
 --
 --   pushed, putAll   a row with one character more, and with several
 --   SpelledAs        what data spell, as the code holds it: how far it came, the row and its sum
---   itemOf           the item that characters begin with
+--   itemOf           the item that characters begin with; pairedAt, whether it is a pair; widthOf, its width, 0 where no byte draws it
 --   MeasuredAs       what characters spell, as the code holds it; Written, they spell data that fit
 --   filledAs         an outcome as the code holds it: verdict, number and the lent places
 --   closedRow, finishedRow, filledRow    the row of what was spelled, behind 7, behind 5, 6, 7, and of data, behind 4, 5, 6, 7
@@ -10,7 +10,7 @@
 --   dataOfRow        a row's data: of its first `len` places
 --   handedOf, written    the answer, 8 where the lent buffer has less room, and the buffer afterwards
 use mathlib.Core.Path.{_≡_}
-use mathlib.Core.Bool.{Bool, true}
+use mathlib.Core.Bool.{Bool, true, false}
 use mathlib.Core.List.{List, [], _∷_, _++_}
 use Prim.Native.Nat.{ℕ, _+_, _≤_}
 use lib.Dec.{ltb}
@@ -50,12 +50,22 @@ pub record SpelledAs (y : Symbology) (m : ℕ) (text : List ℕ) (r : Spelled) (
   pub stop : (i : ℕ) → spelled y m text ≡ stopped i → r .bad .0 ≡ i
   pub all : (h : List ℕ) → spelled y m text ≡ found h → SpelledAll y m (length text) h r codes
 
+-- whether characters begin with a pair
+abbrev pub pairedAt : Coder → List ℕ → Bool
+pairedAt k [] = false
+pairedAt k (c ∷ []) = false
+pairedAt k (c ∷ d ∷ cs) = k .shift (ends cs) c
+
 -- the item at the front of characters: its byte and its width
 abbrev pub itemOf : Coder → Bool → List ℕ → Item
 itemOf k start [] = record { byte = 256; width = 1 }
 itemOf k start (c ∷ []) = record { byte = byteFor k (stands start []) (c ∷ []); width = 1 }
 itemOf k start (c ∷ d ∷ cs) =
     pick (k .shift (ends cs) c) (record { byte = byteFor k (stands start cs) (c ∷ d ∷ []); width = 2 }) (record { byte = byteFor k (stands start (d ∷ cs)) (c ∷ []); width = 1 })
+
+-- its width, 0 where no byte draws it
+abbrev pub widthOf : Item → ℕ
+widthOf i = pick (ltb (i .byte) 256) (i .width) 0
 
 pub record MeasuredAll (y : Symbology) (m : ℕ) (cs d : List ℕ) (r : Measured) : Type 0 where
   pub whole : r .bad .0 ≡ length cs

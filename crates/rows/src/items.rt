@@ -13,7 +13,7 @@ ghost use Rattle.laws.specs.Spelling.{unspell};
 ghost use Rattle.symbologies.specs.Sizes.{places};
 ghost use Rattle.symbologies.specs.Rows.{finds};
 ghost use Rattle.symbologies.specs.Symbologies.{symbologyOf};
-ghost use Rattle.rows.specs.Held.{itemOf, MeasuredAs, Written};
+ghost use Rattle.rows.specs.Held.{pairedAt, itemOf, widthOf, MeasuredAs, Written};
 ghost use Rattle.rows.specs.Sums.{Small, summed};
 
 // A byte, or 256, and the characters that draw it.
@@ -30,24 +30,66 @@ pub struct Measured {
     pub sum: Sum,
 }
 
-// The item that begins at a place of a row's first n characters.
+// Whether the item that begins at a place of a row's first n characters is a pair: a shift character that has a neighbour.
+fn is_paired(symbology: u8, mode: u8, codes: &[u8; PLACES], at: usize, n: usize) -> bool
+    requires { ⌜ (at < n) × ((n ≤ places) × (length (now codes) ≡ places)) ⌝ }
+    ensures { λ r. ⌜ r ≡ pairedAt (symbologyOf symbology .coder mode) (drop at (take n (now (codes .entry)))) ⌝ }
+{
+    if at + 1 < n {
+        coders::is_shift(symbology, mode, at + 2 == n, codes[at])
+    } else {
+        false
+    }
+}
+
+// That item.
 fn item_at(symbology: u8, mode: u8, codes: &[u8; PLACES], at: usize, n: usize) -> Item
     requires { ⌜ (at < n) × ((n ≤ places) × (length (now codes) ≡ places)) ⌝ }
     ensures { λ r. ⌜ r ≡ itemOf (symbologyOf symbology .coder mode) (eqb at 0) (drop at (take n (now (codes .entry)))) ⌝ }
 {
-    let c = codes[at];
-    if at + 1 < n {
-        let end = at + 2 == n;
-        if coders::is_shift(symbology, mode, end, c) {
-            return Item {
-                byte: coders::pair(symbology, mode, at == 0, end, c, codes[at + 1]),
-                width: 2,
-            };
-        }
+    if is_paired(symbology, mode, codes, at, n) {
+        return Item {
+            byte: coders::pair(
+                symbology,
+                mode,
+                at == 0,
+                at + 2 == n,
+                codes[at],
+                codes[at + 1],
+            ),
+            width: 2,
+        };
     }
     Item {
-        byte: coders::alone(symbology, mode, at == 0, at + 1 == n, c),
+        byte: coders::alone(symbology, mode, at == 0, at + 1 == n, codes[at]),
         width: 1,
+    }
+}
+
+// How many characters it has, or 0 where no byte draws it.
+fn width_at(symbology: u8, mode: u8, codes: &[u8; PLACES], at: usize, n: usize) -> usize
+    requires { ⌜ (at < n) × ((n ≤ places) × (length (now codes) ≡ places)) ⌝ }
+    ensures { λ r. ⌜ r ≡ widthOf (itemOf (symbologyOf symbology .coder mode) (eqb at 0) (drop at (take n (now (codes .entry))))) ⌝ }
+{
+    if is_paired(symbology, mode, codes, at, n) {
+        if coders::pair(
+            symbology,
+            mode,
+            at == 0,
+            at + 2 == n,
+            codes[at],
+            codes[at + 1],
+        )
+            < 256
+        {
+            return 2;
+        }
+        return 0;
+    }
+    if coders::is_alone(symbology, mode, at == 0, at + 1 == n, codes[at]) {
+        1
+    } else {
+        0
     }
 }
 
@@ -74,8 +116,8 @@ pub fn measure(symbology: u8, mode: u8, codes: &[u8; PLACES], n: usize) -> Measu
     let mut bytes = 0;
     let mut at = 0;
     while at < n {
-        let item = item_at(symbology, mode, codes, at, n);
-        if 255 < item.byte {
+        let width = width_at(symbology, mode, codes, at, n);
+        if width == 0 {
             return Measured {
                 bytes,
                 bad: CharPlace(at),
@@ -83,10 +125,10 @@ pub fn measure(symbology: u8, mode: u8, codes: &[u8; PLACES], n: usize) -> Measu
             };
         }
         if at != own {
-            sum = take_item(sum, codes, at, item.width);
+            sum = take_item(sum, codes, at, width);
         }
         bytes += 1;
-        at += item.width;
+        at += width;
     }
     Measured {
         bytes,

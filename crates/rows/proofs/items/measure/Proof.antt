@@ -29,55 +29,43 @@ loop-holds c = start _ _ _ _ (c .start-of .ensures (c .before .own-of .result) (
 
 returns : tie.Need-returns Inv-loop μ-loop
 returns c =
-    let a = c .before .before .before .before .before .before .before in
-    refused (symbologyOf (a .args .symbology)) _ _ _ (under _ _ (a .pre .1)) _ _ _ _ (c .before .before .before .before .loop .inv) (c .before .before .before .loop-test .taken)
-    (c .before .before .item-at .result) (c .before .before .item-at .ensures) (c .if1 .taken)
+    let a = c .before .before .before .before .before .before in
+    refused (symbologyOf (a .args .symbology)) _ _ _ (under _ _ (a .pre .1)) _ _ _ _ (c .before .before .before .loop .inv) (c .before .before .loop-test .taken) (c .before .width-at .result) (c .before .width-at .ensures) (c .if1 .taken)
 
 take-item-requires : tie.Need-take-item-requires Inv-loop μ-loop
 take-item-requires c κs =
-    let a = c .before .before .before .before .before .before .before .before in
-    let l = c .before .before .before .before .before .loop in
-    let w = fits (symbologyOf (a .args .symbology)) _ _ _ (under _ _ (a .pre .1)) _ _ _ _ (l .inv) (c .before .before .before .before .loop-test .taken)
-    (c .before .before .before .item-at .result) (c .before .before .before .item-at .ensures) in
-    (small-more (2 * l .at) 80 (l .sum) (omega (arith, c .before .before .before .before .loop-test .taken, a .pre .1 .0)) (l .inv .small), (a .pre .1 .1, (omega (arith, w .1 .0, a .pre .1 .0), (w .0, w .1 .1))))
+    let a = c .before .before .before .before .before .before .before in
+    let l = c .before .before .before .before .loop in
+    let w = fits (symbologyOf (a .args .symbology)) _ _ _ (under _ _ (a .pre .1)) _ _ _ _ (c .before .before .before .before .loop .inv) (c .before .before .before .loop-test .taken) (c .before .before .width-at .result) (c .before .before .width-at .ensures) (c .before .if1 .left) in
+    (small-more (2 * l .at) 80 (l .sum) (omega (arith, c .before .before .before .loop-test .taken, a .pre .1 .0)) (l .inv .small), (a .pre .1 .1, (omega (arith, w .1 .0, a .pre .1 .0), (w .0, w .1 .1))))
 
 add-bytes : tie.Need-add-bytes Inv-loop μ-loop
 add-bytes c =
-    let a = c .before .before .before .before .before .before .before .before in
-    omega (
-      arith,
-      few-bytes (symbologyOf (a .args .symbology)) _ _ _ (under _ _ (a .pre .1)) _ _ _ _ (c .before .before .before .before .before .loop .inv) (c .before .before .before .before .loop-test .taken)
-          (c .before .before .before .item-at .result) (c .before .before .before .item-at .ensures),
-      a .pre .1 .0,
-    )
+    let a = c .before .before .before .before .before .before .before in
+    omega (arith, few-bytes (symbologyOf (a .args .symbology)) _ _ _ (under _ _ (a .pre .1)) _ _ _ _ (c .before .before .before .before .loop .inv) (c .before .before .before .loop-test .taken) (c .before .before .width-at .result) (c .before .before .width-at .ensures), c .before .before .before .loop-test .taken, a .pre .1 .0)
 
 add-at : tie.Need-add-at Inv-loop μ-loop
 add-at c =
-    let a = c .before .before .before .before .before .before .before .before .before in
-    omega (
-      arith,
-      fits (symbologyOf (a .args .symbology)) _ _ _ (under _ _ (a .pre .1)) _ _ _ _ (c .before .before .before .before .before .before .loop .inv) (c .before .before .before .before .before .loop-test .taken)
-          (c .before .before .before .before .item-at .result) (c .before .before .before .before .item-at .ensures) .1 .0,
-    )
+    let a = c .before .before .before .before .before .before .before in
+    omega (arith, fits (symbologyOf (a .args .symbology)) _ _ _ (under _ _ (a .pre .1)) _ _ _ _ (c .before .before .before .before .loop .inv) (c .before .before .before .loop-test .taken) (c .before .before .width-at .result) (c .before .before .width-at .ensures) (c .before .if1 .left) .1 .0, a .pre .1 .0)
 
 loop-less : tie.Need-loop-less Inv-loop μ-loop
 loop-less c =
-    let a = c .before .before .before .before .before .before .before .before .before in
-    let w = fits (symbologyOf (a .args .symbology)) _ _ _ (under _ _ (a .pre .1)) _ _ _ _ (c .before .before .before .before .before .before .loop .inv) (c .before .before .before .before .before .loop-test .taken)
-    (c .before .before .before .before .item-at .result) (c .before .before .before .before .item-at .ensures) in
+    let a = c .before .before .before .before .before .before .before in
+    let w = fits (symbologyOf (a .args .symbology)) _ _ _ (under _ _ (a .pre .1)) _ _ _ _ (c .before .before .before .before .loop .inv) (c .before .before .before .loop-test .taken) (c .before .before .width-at .result) (c .before .before .width-at .ensures) (c .before .if1 .left) in
     omega (arith, w .0, w .1 .0)
 
 loop-again : tie.Need-loop-again Inv-loop μ-loop
 loop-again c =
-    let a = c .before .before .before .before .before .before .before .before .before in
-    let s = c .before .before .before .before .before .before .loop .inv in
-    let h = c .before .before .before .before .before .loop-test .taken in
-    let i = c .before .before .before .before .item-at in
-    let b = c .before .before .if1 .left in
-    let o = c .before .before .before .before .before .before .before .before .own-of .ensures in
+    let a = c .before .before .before .before .before .before .before in
+    let s = c .before .before .before .before .loop .inv in
+    let h = c .before .before .before .loop-test .taken in
+    let i = c .before .before .width-at in
+    let z = c .before .if1 .left in
+    let o = c .before .before .before .before .before .before .own-of .ensures in
     ⊎-elim
-    (λ w. taken-up (symbologyOf (a .args .symbology)) _ _ _ (under _ _ (a .pre .1)) _ _ _ _ s h (i .result) (i .ensures) b (λ q. rw q (proper (a .args .symbology) .ends)) (λ q. w .0 .taken (q ∙ sym o)) _ (w .2 ∙ w .1 .ensures .0) (λ j k. rw (w .2) (w .1 .ensures .1 j k)))
-    (λ w. rw (w .1) (left-out (symbologyOf (a .args .symbology)) _ _ _ (under _ _ (a .pre .1)) _ _ _ _ s h (i .result) (i .ensures) b (w .0 .left ∙ o))) (c .before .if2 .came)
+    (λ w. taken-up (symbologyOf (a .args .symbology)) _ _ _ (under _ _ (a .pre .1)) _ _ _ _ s h (i .result) (i .ensures) z (λ q. rw q (proper (a .args .symbology) .ends)) (λ q. w .0 .taken (q ∙ sym o)) _ (w .2 ∙ w .1 .ensures .0) (λ j k. rw (w .2) (w .1 .ensures .1 j k)))
+    (λ w. rw (w .1) (left-out (symbologyOf (a .args .symbology)) _ _ _ (under _ _ (a .pre .1)) _ _ _ _ s h (i .result) (i .ensures) z (w .0 .left ∙ o))) (c .if2 .came)
 
 returns-2 : tie.Need-returns-2 Inv-loop μ-loop
 returns-2 c =
