@@ -3,7 +3,6 @@
 --   no-first, first-row, plain-row    11, EAN-13's row, any other row
 --   stop-seen, all-seen    10 where units are left, else the row of what was gathered
 --   under-seen             and what was gathered is below 100
---   given-none, turned-on  what a verdict says of the checks that it is made of
 --   given-few              a count that passes is at most as many as there are places
 --   turned-seen, given-seen    1, 2, 9, or what the units show
 --
@@ -24,13 +23,14 @@ use Rattle.words.specs.Order.{Check, firstOf, Outcome, turned}
 use Rattle.words.proofs.Order.{None, none-on}
 use Rattle.tables.specs.Ean.{firstDigit}
 use Rattle.symbologies.specs.declared.row.Row.{Row}
-use Rattle.symbologies.specs.declared.limits.Verdict.the-variants.{Given, Turned}
+use Rattle.symbologies.specs.declared.judging.Verdict.the-variants.{Given, Turned}
 use Rattle.symbologies.specs.Sizes.{places}
 use Rattle.symbologies.specs.Parts.{Shown, paritiesIn}
 use Rattle.symbologies.specs.Symbologies.{symbologies, symbologyOf}
 use Rattle.symbologies.specs.Rows.{countChecks}
 use Rattle.symbologies.specs.Strips.{unitsOf, countFor, charsOf, rowSeen}
 use Rattle.symbologies.specs.Told.{rowIn, told, judgedCount}
+use Rattle.symbologies.proofs.Verdicts.{judged-none, judged-turned}
 use Rattle.symbologies.proofs.Numbers.{only-seven}
 use Rattle.symbologies.proofs.Counted.{counted-few}
 use Rattle.symbologies.proofs.Counting.{drawn-counted}
@@ -92,27 +92,10 @@ module _ (s n : ℕ) (t : List ℕ) (k : n ≤ places) (w : Walked) (units : ℕ
 
 -- ---- 1, 2, 9, or what the units show
 
-given-none : (cs : List Check) → firstOf Turned cs Given ≡ Given → None cs
-given-none [] e = tt
-given-none (c ∷ cs) e = go (c .applies) refl (given-none cs) e
-  where
-    go : (b : Bool) → c .applies ≡ b → (firstOf Turned cs Given ≡ Given → None cs) → pick b (Turned (c .answer)) (firstOf Turned cs Given) ≡ Given → None (c ∷ cs)
-    go true t f e = let z : _≡_ {A = ℕ} 0 1 = cc in absurd (omega arith)
-    go false t f e = (t, f e)
-
-turned-on : (cs : List Check) (x : Answer) → firstOf Turned cs Given ≡ Turned x → (z : Outcome) → firstOf turned cs z ≡ turned x
-turned-on [] x e z = cc
-turned-on (c ∷ cs) x e z = go (c .applies) (λ h. turned-on cs x h z) e
-  where
-    go : (b : Bool) → (firstOf Turned cs Given ≡ Turned x → firstOf turned cs z ≡ turned x) → pick b (Turned (c .answer)) (firstOf Turned cs Given) ≡ Turned x
-        → pick b (turned (c .answer)) (firstOf turned cs z) ≡ turned x
-    go true f e = let q : c .answer ≡ x = cc in rw q
-    go false f e = f e
-
 pub given-few : (s m n : ℕ) → judgedCount s m n ≡ Given → n ≤ places
 unfolding judgedCount
 given-few s m n e =
-    let q : None (countChecks (symbologyOf s) m n) = given-none (countChecks (symbologyOf s) m n) e in
+    let q : None (countChecks (symbologyOf s) m n) = judged-none (countChecks (symbologyOf s) m n) e in
     counted-few s n (drawn-counted s m n (not-false _ (q .1 .0)) (not-false _ (q .1 .1 .0)))
 
 module _ (s m : ℕ) (t : List ℕ) where
@@ -125,10 +108,10 @@ module _ (s m : ℕ) (t : List ℕ) where
 
   pub turned-seen : (x : Answer) → judgedCount s m n ≡ Turned x → told (turned x) ≡ told (rowSeen s m t)
   unfolding judgedCount
-  turned-seen x e = ap told (sym (seen-behind ∙ turned-on (countChecks (symbologyOf s) m n) x e _))
+  turned-seen x e = ap told (sym (seen-behind ∙ judged-turned turned (countChecks (symbologyOf s) m n) x _ e))
 
   pub given-seen : judgedCount s m n ≡ Given → told (shown s n (read (unitsOf s n) t)) ≡ told (rowSeen s m t)
   unfolding judgedCount
   given-seen e =
       let cs : List Check = countChecks (symbologyOf s) m n in
-      ap told (sym (seen-behind ∙ none-on turned cs _ (given-none cs e)))
+      ap told (sym (seen-behind ∙ none-on turned cs _ (judged-none cs e)))

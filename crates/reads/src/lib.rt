@@ -21,9 +21,9 @@ mod position;
 mod search;
 mod walk;
 
+use symbologies::judging;
+use symbologies::judging::Verdict;
 use symbologies::lengths;
-use symbologies::limits;
-use symbologies::limits::Verdict;
 use symbologies::row;
 use symbologies::row::Row;
 use symbologies::row::Rowed;
@@ -31,7 +31,7 @@ use words::Answer;
 ghost use mathlib.Core.Path.{_≡_};
 ghost use Prim.Native.Nat.{ℕ, _<_, _≤_};
 ghost use Rattle.laws.specs.Units.{read};
-ghost use Rattle.symbologies.specs.declared.limits.Verdict.the-variants.{Given};
+ghost use Rattle.symbologies.specs.declared.judging.Verdict.the-variants.{Given};
 ghost use Rattle.symbologies.specs.Sizes.{places};
 ghost use Rattle.symbologies.specs.Strips.{unitsOf, rowSeen};
 ghost use Rattle.symbologies.specs.Told.{told};
@@ -42,7 +42,7 @@ pub fn row_seen(symbology: u8, mode: u8, strip: &[u8]) -> Rowed
     ensures { λ r. ⌜ r ≡ told (rowSeen symbology mode (now (strip .entry))) ⌝ }
 {
     let n = lengths::count_for(symbology, strip.len());
-    match limits::judge_count(symbology, mode, n) {
+    match judging::judge_count(symbology, mode, n) {
         Verdict::Turned(answer) => row::turn_away(answer),
         Verdict::Given => read_strip(symbology, n, strip),
     }

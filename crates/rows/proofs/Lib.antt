@@ -1,5 +1,4 @@
 pub mod Sums
-pub mod Fields
 pub mod Measures
 pub mod Spellings
 pub mod Returns

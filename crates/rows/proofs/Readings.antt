@@ -25,10 +25,10 @@ use Rattle.laws.proofs.Spelling.{unspell-stops}
 use Rattle.words.specs.declared.Answer.{Answer}
 use Rattle.words.specs.declared.Answer.the-variants.{BadCheck, NoExpansion, ShortForData}
 use Rattle.words.specs.Order.{Check, firstOf, Outcome, gives, turned, outcome, charPlace, byteCount}
-use Rattle.words.proofs.Order.{first-append, first-through, None, none-on, given, turned-on}
+use Rattle.words.proofs.Order.{first-append, None, none-on}
 use Rattle.symbologies.specs.declared.row.Row.{Row}
-use Rattle.symbologies.specs.declared.limits.Verdict.{Verdict}
-use Rattle.symbologies.specs.declared.limits.Verdict.the-variants.{Given, Turned as VerdictTurned}
+use Rattle.symbologies.specs.declared.judging.Verdict.{Verdict}
+use Rattle.symbologies.specs.declared.judging.Verdict.the-variants.{Given, Turned as VerdictTurned}
 use Rattle.symbologies.specs.Sizes.{places}
 use Rattle.symbologies.specs.Limits.{holds, odd, added}
 use Rattle.symbologies.specs.Symbologies.{Symbology, symbologyOf}
@@ -36,6 +36,7 @@ use Rattle.symbologies.specs.Rows.{wrong, charsRead, unspelled, dataRead, count
 use Rattle.symbologies.specs.Told.{judgedCount}
 use Rattle.symbologies.proofs.Asked.{Counts}
 use Rattle.symbologies.proofs.Undo.{held}
+use Rattle.symbologies.proofs.Verdicts.{judged-none, judged-turned}
 use Rattle.symbologies.proofs.Proper.{proper, last-place}
 use Rattle.rows.specs.declared.items.Measured.{Measured}
 use Rattle.rows.specs.declared.reading.Handed.the-variants.{Data, Turned}
@@ -130,29 +131,22 @@ module _ (s m : ℕ) (codes : List ℕ) (n : ℕ) (p : (m < 3) × (((added m < n
 
 -- ---- 1, 2, 9
 
--- a verdict as an outcome
-abbrev heard : Verdict → Outcome
-heard Given = gives []
-heard (VerdictTurned a) = turned a
-
 module _ (s m : ℕ) (row : Row) where
   abbrev counts : List Check
   counts = countChecks (symbologyOf s) m (row .len)
-
-  heard-is : heard (judgedCount s m (row .len)) ≡ outcome counts []
-  unfolding judgedCount
-  heard-is = first-through VerdictTurned heard counts Given
 
   behind-count : dataOfRow s m row ≡ firstOf turned counts (readData (symbologyOf s) m (take (row .len) (row .codes)))
   unfolding dataOfRow dataOfCount readData
   behind-count = first-append turned counts (dataChecks (symbologyOf s) m (take (row .len) (row .codes))) (gives (dataRead (symbologyOf s) m (take (row .len) (row .codes))))
 
   pub count-turned : (a : Answer) → judgedCount s m (row .len) ≡ VerdictTurned a → dataOfRow s m row ≡ turned a
-  count-turned a e = behind-count ∙ turned-on turned counts [] a (sym heard-is ∙ ap heard e) (readData (symbologyOf s) m (take (row .len) (row .codes)))
+  unfolding judgedCount
+  count-turned a e = behind-count ∙ judged-turned turned counts a (readData (symbologyOf s) m (take (row .len) (row .codes))) e
 
   module _ (e : judgedCount s m (row .len) ≡ Given) where
     passed : None counts
-    passed = given counts [] [] (sym heard-is ∙ ap heard e) .0
+    unfolding judgedCount
+    passed = judged-none counts e
 
     pub count-given : dataOfRow s m row ≡ readData (symbologyOf s) m (take (row .len) (row .codes))
     count-given = behind-count ∙ none-on turned counts (readData (symbologyOf s) m (take (row .len) (row .codes))) passed

@@ -3,8 +3,9 @@
 --   checked-last, others-last, passes-last    a check that stands last
 --   drawn-long      how many characters are drawn
 --   closed-plain, closed-wrong, closed-right, closed-added    7: no check, a wrong one, a right one, one that is put in
---   odd-count, too-many, let-finish    5, 6, and then that
+--   not-drawn, let-finish    5, 6, and then that
 --   bad-byte, Whole, whole-text, let-fill    4, and then that
+--   field-turned, field-given    1, 2, 3, 13, and then that
 --
 -- Assumes nothing.
 use mathlib.Core.Path.{_≡_, refl, sym, ap, _∙_}
@@ -14,28 +15,28 @@ use mathlib.Core.List.{List, [], _∷_, _++_, append-nil}
 use Prim.Native.Nat.{ℕ, suc, _+_, _-_, _<_, _≤_}
 use native.Mathlib.Omega.{arith}
 use lib.Dec.{eqb}
-use lib.ListN.{length, getD, take, drop, set, length-append, length-drop, drop-of-length-le}
-use lib.Seq.{length-take-le, take-length, drop-length}
-use borrow.Author.Tests.{eq-eqb, ne-eqb, lt-ltb, le-ltb, le-leb, lt-leb, not-true, not-false}
+use lib.ListN.{length, getD, take, drop, set, length-append, drop-of-length-le}
+use lib.Seq.{take-length, drop-length}
+use borrow.Author.Tests.{eq-eqb, ne-eqb}
 use Rattle.laws.specs.Search.{pick}
 use Rattle.laws.specs.Units.{Reading, found, stopped}
 use Rattle.laws.specs.Rules.{Rule, placeOf, othersOf, checkOf, checkedOf, passes}
 use Rattle.laws.proofs.Rules.{checked-passes}
 use Rattle.laws.proofs.Spelling.{spell-few, spell-long, spell-stops}
-use Rattle.words.specs.declared.Answer.the-variants.{NoSymbology, NoMode, BadCount, BadByte, OddCount, TooManyDrawn, BadCheck, FieldNotZero}
-use Rattle.words.specs.Order.{turned, dataPlace, charPlace}
+use Rattle.words.specs.declared.Answer.{Answer}
+use Rattle.words.specs.declared.Answer.the-variants.{BadByte, BadCheck}
+use Rattle.words.specs.Order.{Check, check, firstOf, gives, turned, outcome, charPlace}
+use Rattle.words.proofs.Order.{first-append, none-on}
 use Rattle.symbologies.specs.declared.row.Row.{Row}
-use Rattle.symbologies.specs.declared.limits.Limits.{Limits}
-use Rattle.symbologies.specs.declared.limits.Verdict.the-variants.{Given}
+use Rattle.symbologies.specs.declared.judging.Verdict.the-variants.{Given, Turned}
 use Rattle.symbologies.specs.Sizes.{places}
-use Rattle.symbologies.specs.Limits.{offered, holds, odd, added}
+use Rattle.symbologies.specs.Limits.{added}
 use Rattle.symbologies.specs.Symbologies.{Symbology, symbologyOf}
-use Rattle.symbologies.specs.Rows.{wrong, spelled, drawnOf, nonzero, unclean, rowOfField}
-use Rattle.symbologies.specs.Told.{rowIn, told}
+use Rattle.symbologies.specs.Rows.{wrong, wrongAt, spelled, drawnOf, rowDrawn, drawnChecks, textChecks, fieldChecks, rowOfField}
+use Rattle.symbologies.specs.Told.{rowIn, told, judgedField, judgedDrawn}
 use Rattle.symbologies.proofs.Held.{getD-pad}
-use Rattle.symbologies.proofs.Asked.{Counts}
-use Rattle.symbologies.proofs.Undo.{held}
-use Rattle.symbologies.proofs.Proper.{proper}
+use Rattle.symbologies.proofs.Proper.{proper, last-place}
+use Rattle.symbologies.proofs.Verdicts.{judged-none, judged-turned}
 use Rattle.rows.specs.declared.spelling.Spelled.{Spelled}
 use Rattle.rows.specs.Sums.{othersIn}
 use Rattle.rows.specs.Held.{pushed, SpelledAll, SpelledAs, closedRow, finishedRow, filledRow}
@@ -101,22 +102,24 @@ module _ (y : Symbology) (m : ℕ) (h : List ℕ) (b : y .rule .behind ≡ 0) (c
 
 -- ---- 5 and 6, as `finish` has them
 
-module _ (y : Symbology) (m : ℕ) (h : List ℕ) (b : y .rule .behind ≡ 0) (l : Limits) (e : l ≡ y .limits) (len count : ℕ) (k : len ≡ length h) (n : count ≡ len + added m) where
-  long : length (drawnOf y m h) ≡ count
-  long = drawn-long y m h b ∙ sym (rw k at n)
+module _ (s m : ℕ) (h : List ℕ) (len count : ℕ) (k : len ≡ length h) (n : count ≡ len + added m) where
+  long : length (drawnOf (symbologyOf s) m h) ≡ count
+  long = drawn-long (symbologyOf s) m h (last-place s) ∙ sym (rw k at n)
 
-  pub odd-count : odd l count ≡ true → told (turned OddCount) ≡ told (finishedRow y m h)
-  unfolding finishedRow
-  odd-count o = rw (long, ← e, o)
+  behind-drawn : finishedRow (symbologyOf s) m h ≡ firstOf turned (drawnChecks (symbologyOf s) count) (closedRow (symbologyOf s) m h)
+  unfolding finishedRow closedRow
+  behind-drawn =
+      let r : List ℕ = drawnOf (symbologyOf s) m h in
+      first-append turned (drawnChecks (symbologyOf s) (length r)) (check (wrong (symbologyOf s) m r) (wrongAt (symbologyOf s) r) ∷ []) (gives r)
+      ∙ ap (λ (c : ℕ). firstOf turned (drawnChecks (symbologyOf s) c) (outcome (check (wrong (symbologyOf s) m r) (wrongAt (symbologyOf s) r) ∷ []) r)) long
 
-  module _ (o : odd l count ≡ false) where
-    pub too-many : l .room < count → told (turned TooManyDrawn) ≡ told (finishedRow y m h)
-    unfolding finishedRow
-    too-many g = rw (long, ← e, o, lt-ltb (l .room) count g)
+  pub not-drawn : (a : Answer) → judgedDrawn s count ≡ Turned a → told (turned a) ≡ told (finishedRow (symbologyOf s) m h)
+  unfolding judgedDrawn
+  not-drawn a e = ap told (sym (behind-drawn ∙ judged-turned turned (drawnChecks (symbologyOf s) count) a _ e))
 
-    pub let-finish : count ≤ l .room → told (closedRow y m h) ≡ told (finishedRow y m h)
-    unfolding finishedRow closedRow
-    let-finish g = rw (long, ← e, o, le-ltb (l .room) count g)
+  pub let-finish : judgedDrawn s count ≡ Given → told (closedRow (symbologyOf s) m h) ≡ told (finishedRow (symbologyOf s) m h)
+  unfolding judgedDrawn
+  let-finish e = ap told (sym (behind-drawn ∙ none-on turned (drawnChecks (symbologyOf s) count) _ (judged-none (drawnChecks (symbologyOf s) count) e)))
 
 -- ---- 4, as `fill` has it
 
@@ -157,51 +160,18 @@ module _ (s m : ℕ) (text : List ℕ) (r : Spelled) (codes : List ℕ) (w : Who
 
 -- ---- 1, 2, 3, 13, as `row_of_field` has them
 
-module _ (s m : ℕ) (l : Limits) (e : l ≡ symbologyOf s .limits) (count : ℕ) (field : List ℕ) where
-  pub no-symbology : not (l .known) ≡ true → told (turned NoSymbology) ≡ told (rowOfField s m count field)
-  unfolding rowOfField
-  no-symbology p = rw (← e, p)
+module _ (s m count : ℕ) (field : List ℕ) where
+  abbrev checks : List Check
+  checks = fieldChecks (symbologyOf s) m count field
 
-  module _ (k : not (l .known) ≡ false) (o : Bool) (eo : o ≡ offered l m) where
-    pub no-mode : not o ≡ true → told (turned NoMode) ≡ told (rowOfField s m count field)
-    unfolding rowOfField
-    no-mode p = rw (← e, k, ← eo, p)
+  behind-field : rowOfField s m count field ≡ firstOf turned checks (filledRow (symbologyOf s) m (take count field))
+  unfolding rowOfField filledRow
+  behind-field = first-append turned checks (textChecks (symbologyOf s) m (take count field)) (gives (rowDrawn (symbologyOf s) m (take count field)))
 
-    module _ (p : not o ≡ false) (h : Bool) (eh : h ≡ holds l m count) where
-      offers-is : offered (symbologyOf s .limits) m ≡ true
-      offers-is = rw (← e, ← eo) (not-false o p)
+  pub field-turned : (a : Answer) → judgedField s m count field ≡ Turned a → told (turned a) ≡ told (rowOfField s m count field)
+  unfolding judgedField
+  field-turned a e = ap told (sym (behind-field ∙ judged-turned turned checks a _ e))
 
-      pub in-mode : m < 3
-      in-mode = proper s .counts m offers-is .mode
-
-      pub bad-count : not h ≡ true → told (turned BadCount) ≡ told (rowOfField s m count field)
-      unfolding rowOfField
-      bad-count q = rw (← e, k, ← eo, p, ← eh, not-true h q)
-
-      module _ (q : not h ≡ false) where
-        pub short-field : length field < count → told (turned BadCount) ≡ told (rowOfField s m count field)
-        unfolding rowOfField
-        short-field f = rw (← e, k, ← eo, p, ← eh, not-false h q, lt-leb count (length field) f)
-
-        module _ (f : count ≤ length field) where
-          pub in-part : (0 < length (take count field)) × (length (take count field) ≤ places)
-          in-part =
-              let n : Counts (symbologyOf s) m = proper s .counts m offers-is in
-              let b = held (symbologyOf s .limits) m count (rw (← e, ← eh) (not-false h q)) in
-              rw (length-take-le count field f) (omega (arith, n .some, b .0), omega (arith, n .cap, b .1, proper s .small))
-
-          module _ (at : ℕ) (ea : at ≡ count + nonzero (drop count field)) where
-            rest-long : length (drop count field) ≡ length field - count
-            rest-long = length-drop count field
-
-            pub not-zero : at < length field → told (turned (FieldNotZero (dataPlace at))) ≡ told (rowOfField s m count field)
-            unfolding rowOfField
-            not-zero g =
-                let u : unclean count field ≡ true = lt-ltb (nonzero (drop count field)) (length (drop count field)) (omega (arith, rest-long)) in
-                rw (← e, k, ← eo, p, ← eh, not-false h q, le-leb count (length field) f, u, ea)
-
-            pub let-row : length field ≤ at → told (filledRow (symbologyOf s) m (take count field)) ≡ told (rowOfField s m count field)
-            unfolding rowOfField filledRow
-            let-row g =
-                let u : unclean count field ≡ false = le-ltb (nonzero (drop count field)) (length (drop count field)) (omega (arith, rest-long)) in
-                rw (← e, k, ← eo, p, ← eh, not-false h q, le-leb count (length field) f, u)
+  pub field-given : judgedField s m count field ≡ Given → told (filledRow (symbologyOf s) m (take count field)) ≡ told (rowOfField s m count field)
+  unfolding judgedField
+  field-given e = ap told (sym (behind-field ∙ none-on turned checks _ (judged-none checks e)))

@@ -1,24 +1,23 @@
 // Data to row, with document 01's refusals in its order: 1, 2, 3, 13, 4, 5, 6, 7.
 use super::check::Sum;
 use super::spelling;
-use symbologies::limits;
-use symbologies::limits::Verdict;
+use symbologies::judging;
+use symbologies::judging::Verdict;
 use symbologies::sizes::PLACES;
 use words::Answer;
 use words::CharPlace;
-use words::DataPlace;
 ghost use mathlib.Core.Path.{_≡_};
 ghost use mathlib.Core.List.{List, []};
 ghost use Prim.Native.Nat.{ℕ, _+_, _<_, _≤_};
-ghost use lib.ListN.{length, drop};
+ghost use lib.ListN.{length};
 ghost use Rattle.words.specs.Order.{turned};
 ghost use Rattle.symbologies.specs.Sizes.{places};
 ghost use Rattle.laws.specs.Rules.{checkOf};
-ghost use Rattle.symbologies.specs.declared.limits.Verdict.the-variants.{Given};
+ghost use Rattle.symbologies.specs.declared.judging.Verdict.the-variants.{Given};
 ghost use Rattle.symbologies.specs.Limits.{added};
 ghost use Rattle.symbologies.specs.Told.{pad, rowIn, told};
 ghost use Rattle.symbologies.specs.Symbologies.{Symbology, symbologyOf};
-ghost use Rattle.symbologies.specs.Rows.{nonzero, rowOfField};
+ghost use Rattle.symbologies.specs.Rows.{rowOfField};
 ghost use Rattle.rows.specs.Sums.{othersIn, Checks};
 ghost use Rattle.rows.specs.Held.{filledAs, closedRow, finishedRow, filledRow};
 
@@ -47,21 +46,6 @@ fn give(len: usize) -> Filled
         verdict: Verdict::Given,
         len,
     }
-}
-
-// 13: the index of the first byte from `count` on that is not zero, or the field's length.
-fn first_nonzero(field: &[u8], count: usize) -> usize
-    requires { ⌜ count ≤ length (now field) ⌝ }
-    ensures { λ r. ⌜ r ≡ count + nonzero (drop count (now (field .entry))) ⌝ }
-{
-    let mut i = count;
-    while i < field.len() {
-        if field[i] != 0 {
-            return i;
-        }
-        i += 1;
-    }
-    i
 }
 
 // The drawn characters: mode 2 adds the check.
@@ -96,15 +80,10 @@ fn finish(symbology: u8, mode: u8, len: usize, sum: Sum, codes: &mut [u8; PLACES
     requires { ⌜ (0 < sum .modulus) × (sum .modulus ≤ 255) ⌝ }
     ensures { λ r. ⌜ ((h : List ℕ) → record { codes = now (codes .entry); len = len } ≡ rowIn h → Checks (symbologyOf symbology .rule) (othersIn mode h) sum → filledAs r (now (codes .exit)) ≡ told (finishedRow (symbologyOf symbology) mode h)) ⌝ }
 {
-    let limits = limits::limits_of(symbology);
-    let count = drawn_count(mode, len);
-    if limits::is_odd(limits, count) {
-        return refuse(Answer::OddCount, codes);
+    match judging::judge_drawn(symbology, drawn_count(mode, len)) {
+        Verdict::Turned(answer) => refuse(answer, codes),
+        Verdict::Given => close(mode, len, sum.check(), codes),
     }
-    if limits.room < count {
-        return refuse(Answer::TooManyDrawn, codes);
-    }
-    close(mode, len, sum.check(), codes)
 }
 
 // 4, and then that.
@@ -132,22 +111,8 @@ pub fn row_of_field(
     ensures { λ r. ⌜ filledAs r (now (codes .exit)) ≡ told (rowOfField symbology mode count (now (field .entry))) ⌝ }
 {
     *codes = [0; PLACES];
-    let limits = limits::limits_of(symbology);
-    if !limits.known {
-        return refuse(Answer::NoSymbology, codes);
+    match judging::judge_field(symbology, mode, count, field) {
+        Verdict::Turned(answer) => refuse(answer, codes),
+        Verdict::Given => fill(symbology, mode, &field[0..count], codes),
     }
-    if !limits::offers(limits, mode) {
-        return refuse(Answer::NoMode, codes);
-    }
-    if !limits::takes(limits, mode, count) {
-        return refuse(Answer::BadCount, codes);
-    }
-    if field.len() < count {
-        return refuse(Answer::BadCount, codes);
-    }
-    let at = first_nonzero(field, count);
-    if at < field.len() {
-        return refuse(Answer::FieldNotZero(DataPlace(at)), codes);
-    }
-    fill(symbology, mode, &field[..count], codes)
 }

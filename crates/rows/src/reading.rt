@@ -1,7 +1,7 @@
 // Row to data, with document 01's refusals in its order: 1, 2, 9, 12, 7, and 8 for the lent buffer.
 use super::items;
-use symbologies::limits;
-use symbologies::limits::Verdict;
+use symbologies::judging;
+use symbologies::judging::Verdict;
 use symbologies::row::Row;
 use symbologies::sizes::PLACES;
 use words::Answer;
@@ -61,7 +61,7 @@ pub fn data_of(symbology: u8, mode: u8, row: Row, out: &mut [u8]) -> Handed
     ensures { λ _. ⌜ now (out .exit) ≡ written (dataOfRow symbology mode row) (now (out .entry)) ⌝ }
 {
     let codes = row.codes;
-    match limits::judge_count(symbology, mode, row.len) {
+    match judging::judge_count(symbology, mode, row.len) {
         Verdict::Turned(answer) => Handed::Turned(answer),
         Verdict::Given => hand_over(symbology, mode, &codes, row.len, out),
     }

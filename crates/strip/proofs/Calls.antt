@@ -16,7 +16,7 @@ use Rattle.laws.specs.Search.{pick}
 use Rattle.words.specs.declared.Answer.{Answer}
 use Rattle.words.specs.Order.{Outcome, gives, turned}
 use Rattle.symbologies.specs.declared.row.Rowed.{Rowed}
-use Rattle.symbologies.specs.declared.limits.Verdict.the-variants.{Given as given-row, Turned}
+use Rattle.symbologies.specs.declared.judging.Verdict.the-variants.{Given as given-row, Turned}
 use Rattle.symbologies.specs.Sizes.{places}
 use Rattle.symbologies.specs.Rows.{rowOfField, rowOf}
 use Rattle.symbologies.specs.Strips.{elementsOf, ready}

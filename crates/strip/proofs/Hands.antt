@@ -20,7 +20,7 @@ use Rattle.words.specs.Order.{Outcome, gives, turned, byteCount}
 use Rattle.words.proofs.Order.{first-turned}
 use Rattle.symbologies.specs.declared.row.Rowed.{Rowed}
 use Rattle.symbologies.specs.declared.row.Row.{Row}
-use Rattle.symbologies.specs.declared.limits.Verdict.the-variants.{Given as given-row, Turned}
+use Rattle.symbologies.specs.declared.judging.Verdict.the-variants.{Given as given-row, Turned}
 use Rattle.symbologies.specs.Sizes.{places}
 use Rattle.symbologies.specs.Symbologies.{symbologyOf}
 use Rattle.symbologies.specs.Rows.{dataRead, dataChecks, dataOf}

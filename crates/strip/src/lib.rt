@@ -14,8 +14,8 @@
 pub mod c;
 
 use rows::Handed;
+use symbologies::judging::Verdict;
 use symbologies::lengths;
-use symbologies::limits::Verdict;
 use symbologies::row::Row;
 use symbologies::sizes::PLACES;
 use units::Laid;

@@ -1,5 +1,5 @@
 pub mod Numbers
-pub mod Judging
+pub mod Fields
 pub mod Coders
 pub mod Asked
 pub mod Undo
@@ -8,6 +8,7 @@ pub mod Within
 pub mod Measuring
 pub mod Catches
 pub mod Proper
+pub mod Verdicts
 pub mod Plain
 pub mod Exchanges
 pub mod Laying

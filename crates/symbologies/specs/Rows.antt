@@ -8,8 +8,8 @@
 --   spelled     what the data spell: in mode 1 the check among them
 --   drawnOf     the drawn characters of what is spelled: mode 2 puts the check in at its place; rowDrawn, those of data
 --   nonzero     the index of the first byte that is not zero, or the length; unclean, whether there is one behind the data
---   closing     "5, 6, 7", of drawn characters; textChecks, 4 and those, of data
---   rowChecks   "1, 2, 3, 13, 4, 5, 6, 7", of a field with its count
+--   closing     "5, 6, 7", of drawn characters, 5 and 6 of their number (drawnChecks); textChecks, 4 and those, of data
+--   rowChecks   "1, 2, 3, 13, 4, 5, 6, 7", of a field with its count, the first four before its data are looked at (fieldChecks)
 --   rowOfField  a job record's field with its count: the row, behind these checks
 --   rowOf       plain data: a field of just its length, so that 13 can't come
 --
@@ -73,25 +73,29 @@ nonzero rest = first (λ b. not (eqb b 0)) rest
 abbrev pub unclean : ℕ → List ℕ → Bool
 unclean count field = ltb (nonzero (drop count field)) (length (drop count field))
 
+-- 5, 6
+abbrev pub drawnChecks : Symbology → ℕ → List Check
+drawnChecks y n = check (odd (y .limits) n) OddCount ∷ check (ltb (y .limits .room) n) TooManyDrawn ∷ []
+
 -- 5, 6, 7
 abbrev pub closing : Symbology → ℕ → List ℕ → List Check
-closing y m r =
-    check (odd (y .limits) (length r)) OddCount
-    ∷ check (ltb (y .limits .room) (length r)) TooManyDrawn
-    ∷ check (wrong y m r) (wrongAt y r)
-    ∷ []
+closing y m r = drawnChecks y (length r) ++ check (wrong y m r) (wrongAt y r) ∷ []
 
 -- 4, 5, 6, 7
 abbrev pub textChecks : Symbology → ℕ → List ℕ → List Check
 textChecks y m d = check (stops (spelled y m d)) (BadByte (dataPlace (stopAt (spelled y m d)))) ∷ closing y m (rowDrawn y m d)
 
--- 1, 2, 3, 13, 4, 5, 6, 7
-abbrev pub rowChecks : Symbology → ℕ → ℕ → List ℕ → List Check
-rowChecks y m count field =
+-- 1, 2, 3, 13
+abbrev pub fieldChecks : Symbology → ℕ → ℕ → List ℕ → List Check
+fieldChecks y m count field =
     offers y m
     ++ check (not (holds (y .limits) m count && leb count (length field))) BadCount
     ∷ check (unclean count field) (FieldNotZero (dataPlace (count + nonzero (drop count field))))
-    ∷ textChecks y m (take count field)
+    ∷ []
+
+-- 1, 2, 3, 13, 4, 5, 6, 7
+abbrev pub rowChecks : Symbology → ℕ → ℕ → List ℕ → List Check
+rowChecks y m count field = fieldChecks y m count field ++ textChecks y m (take count field)
 
 unfoldable pub rowOfField : ℕ → ℕ → ℕ → List ℕ → Outcome
 rowOfField s m count field = outcome (rowChecks (symbologyOf s) m count field) (rowDrawn (symbologyOf s) m (take count field))

@@ -2,7 +2,8 @@
 --
 --   pad, rowIn       a list in a row: its first entries as far as there are places, zeros behind them, and its length
 --   told             an outcome as the code holds it
---   judgedCount      1, 2, 9, or nothing against it: whether a mode of a symbology can give so many drawn characters
+--   judgedField      1, 2, 3, 13, or nothing against it; judgedDrawn, 5, 6; judgedCount, 1, 2, 9: whether a mode of a symbology can give so many
+--                    drawn characters
 --   elementsWithin, modulesWithin    the elements of n characters, and the modules of a row; 0 where there are no such places
 use mathlib.Core.List.{List, [], _∷_}
 use Prim.Native.Nat.{ℕ, zero, suc}
@@ -12,11 +13,11 @@ use Rattle.laws.specs.Search.{pick}
 use Rattle.words.specs.Order.{firstOf, Outcome, gives, turned}
 use Rattle.symbologies.specs.declared.row.Row.{Row}
 use Rattle.symbologies.specs.declared.row.Rowed.{Rowed}
-use Rattle.symbologies.specs.declared.limits.Verdict.{Verdict}
-use Rattle.symbologies.specs.declared.limits.Verdict.the-variants.{Given, Turned}
+use Rattle.symbologies.specs.declared.judging.Verdict.{Verdict}
+use Rattle.symbologies.specs.declared.judging.Verdict.the-variants.{Given, Turned}
 use Rattle.symbologies.specs.Sizes.{places}
 use Rattle.symbologies.specs.Symbologies.{symbologyOf}
-use Rattle.symbologies.specs.Rows.{countChecks}
+use Rattle.symbologies.specs.Rows.{fieldChecks, drawnChecks, countChecks}
 use Rattle.symbologies.specs.Strips.{elementsOf, modulesOf}
 
 abbrev pub pad : ℕ → List ℕ → List ℕ
@@ -30,6 +31,12 @@ rowIn cs = record { codes = pad places cs; len = length cs }
 abbrev pub told : Outcome → Rowed
 told (gives cs) = record { verdict = Given; row = rowIn cs }
 told (turned a) = record { verdict = Turned a; row = rowIn [] }
+
+unfoldable pub judgedField : ℕ → ℕ → ℕ → List ℕ → Verdict
+judgedField s m count field = firstOf Turned (fieldChecks (symbologyOf s) m count field) Given
+
+unfoldable pub judgedDrawn : ℕ → ℕ → Verdict
+judgedDrawn s n = firstOf Turned (drawnChecks (symbologyOf s) n) Given
 
 unfoldable pub judgedCount : ℕ → ℕ → ℕ → Verdict
 judgedCount s m n = firstOf Turned (countChecks (symbologyOf s) m n) Given

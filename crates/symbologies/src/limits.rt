@@ -1,12 +1,8 @@
 // What a symbology takes, by mode, and which drawn counts it has: document 01's table.
 use super::sizes::PLACES;
-use words::Answer;
 ghost use mathlib.Core.Path.{_≡_};
-ghost use Prim.Native.Nat.{_-_};
-ghost use Rattle.tables.specs.Alphabet.{size};
-ghost use Rattle.symbologies.specs.Limits.{offered, holds, odd, added};
+ghost use Rattle.symbologies.specs.Limits.{offered, holds, odd};
 ghost use Rattle.symbologies.specs.Symbologies.{symbologyOf};
-ghost use Rattle.symbologies.specs.Told.{judgedCount};
 
 // Data bytes at least and at most, by mode; a mode whose most is 0 is not offered. Whether the drawn count must be even, and how many
 // characters may be drawn. A strip of n characters has one element less than `step` times n and `more`, and one module less than `each`
@@ -21,12 +17,6 @@ pub struct Limits {
     pub more: usize,
     pub each: usize,
     pub rest: usize,
-}
-
-// Whether there is nothing against an input, or the answer that turns it away.
-pub enum Verdict {
-    Given,
-    Turned(Answer),
 }
 
 // The limits and lengths of a symbology, by number; any other number is not known.
@@ -179,47 +169,4 @@ pub fn is_odd(limits: Limits, count: usize) -> bool
     ensures { λ r. ⌜ r ≡ odd limits count ⌝ }
 {
     if limits.even { count % 2 == 1 } else { false }
-}
-
-// The data bytes behind so many characters, if each drew one: mode 2 added the check.
-fn data_count(mode: u8, n: usize) -> usize
-    ensures { λ r. ⌜ r ≡ n - added mode ⌝ }
-{
-    if mode == 2 {
-        if n == 0 { 0 } else { n - 1 }
-    } else {
-        n
-    }
-}
-
-// 1, 2, 9: whether a mode of a symbology can give so many drawn characters.
-pub fn judge_count(symbology: u8, mode: u8, n: usize) -> Verdict
-    ensures { λ r. ⌜ r ≡ judgedCount symbology mode n ⌝ }
-{
-    let limits = limits_of(symbology);
-    if !limits.known {
-        return Verdict::Turned(Answer::NoSymbology);
-    }
-    if !offers(limits, mode) {
-        return Verdict::Turned(Answer::NoMode);
-    }
-    if !takes(limits, mode, data_count(mode, n)) {
-        return Verdict::Turned(Answer::BadLength);
-    }
-    if is_odd(limits, n) {
-        return Verdict::Turned(Answer::BadLength);
-    }
-    Verdict::Given
-}
-
-// The number of characters of the symbology's alphabet.
-pub fn size_of(symbology: u8) -> u8
-    ensures { λ r. ⌜ r ≡ size (symbologyOf symbology .alphabet) ⌝ }
-{
-    match symbology {
-        1 => 43,
-        2 => 43,
-        3 => 20,
-        _ => 10,
-    }
 }

@@ -25,8 +25,8 @@ use Rattle.laws.proofs.Fitting.{Free}
 use Rattle.words.specs.declared.Answer.the-variants.{NoSymbology, NoMode, BadLength}
 use Rattle.words.specs.Order.{check, firstOf}
 use Rattle.tables.specs.Alphabet.{size}
-use Rattle.symbologies.specs.declared.limits.Verdict.{Verdict}
-use Rattle.symbologies.specs.declared.limits.Verdict.the-variants.{Given, Turned}
+use Rattle.symbologies.specs.declared.judging.Verdict.{Verdict}
+use Rattle.symbologies.specs.declared.judging.Verdict.the-variants.{Given, Turned}
 use Rattle.symbologies.specs.Limits.{offered, drawable}
 use Rattle.symbologies.specs.Coders.{lettered}
 use Rattle.symbologies.specs.Symbologies.{symbologies, symbologyOf}

@@ -11,8 +11,8 @@ use lib.Dec.{ltb, leb}
 use lib.ListN.{length, take, drop}
 use Rattle.laws.specs.Search.{pick}
 use Rattle.words.specs.Order.{elementCount, moduleCount}
-use Rattle.symbologies.specs.declared.limits.Verdict.{Verdict}
-use Rattle.symbologies.specs.declared.limits.Verdict.the-variants.{Given, Turned}
+use Rattle.symbologies.specs.declared.judging.Verdict.{Verdict}
+use Rattle.symbologies.specs.declared.judging.Verdict.the-variants.{Given, Turned}
 use Rattle.symbologies.specs.declared.row.Row.{Row}
 use Rattle.symbologies.specs.Sizes.{places}
 use Rattle.symbologies.specs.Strips.{elementsOf, modulesOf, stripOf, ready}

@@ -1,6 +1,6 @@
 // Whether a row is one of its symbology: its count and each character.
-use symbologies::limits;
-use symbologies::limits::Verdict;
+use symbologies::judging;
+use symbologies::judging::Verdict;
 use symbologies::sizes::PLACES;
 ghost use mathlib.Core.Path.{_≡_};
 ghost use mathlib.Core.Bool.{true};
@@ -25,13 +25,13 @@ fn is_given(verdict: Verdict) -> bool
 fn is_counted(symbology: u8, n: usize) -> bool
     ensures { λ r. ⌜ r ≡ counted symbology n ⌝ }
 {
-    if is_given(limits::judge_count(symbology, 0, n)) {
+    if is_given(judging::judge_count(symbology, 0, n)) {
         return true;
     }
-    if is_given(limits::judge_count(symbology, 1, n)) {
+    if is_given(judging::judge_count(symbology, 1, n)) {
         return true;
     }
-    is_given(limits::judge_count(symbology, 2, n))
+    is_given(judging::judge_count(symbology, 2, n))
 }
 
 // Whether the characters from one index up to another have values from `low` up to below `high`.
@@ -77,5 +77,5 @@ pub fn is_ready(symbology: u8, codes: &[u8; PLACES], n: usize) -> bool
     if symbology == 3 {
         return is_lettered(codes, n);
     }
-    all_in(codes, 0, n, 0, limits::size_of(symbology))
+    all_in(codes, 0, n, 0, symbologies::row::size_of(symbology))
 }

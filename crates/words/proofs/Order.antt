@@ -5,7 +5,7 @@
 --   first-each     what is so of every answer and of the given one is so of the first
 --   None, none-on  no check of a list applies, and then the given one is the answer
 --   passed, given  a list behind its checks is given exactly if none of them applies
---   turned-on, first-turned   what is turned away by a list is turned away, also by it and more; first-given, what is given is judged by the rest
+--   first-turned   what is turned away by a list is turned away by it and more; first-given, what is given is judged by the rest
 --   Refusals, zero-none  every answer of a list has a number other than 0, so where the answer is 0 none of them applies
 --   Reached, first-reached    the first check that applies has number n: none before it applies, and it does; hit, where no later one has it
 --
@@ -80,7 +80,7 @@ first-given f cs ds z r q e =
     let p : None cs × (r ≡ q) = given cs r q e in
     first-append f cs (ds r) (z r) ∙ none-on f cs (firstOf f (ds r) (z r)) (p .0) ∙ ap (λ (x : List ℕ). firstOf f (ds x) (z x)) (p .1)
 
-pub turned-on : {A : Type 0} (f : Answer → A) (cs : List Check) (r : List ℕ) (x : Answer) → outcome cs r ≡ turned x → (z : A) → firstOf f cs z ≡ f x
+turned-on : {A : Type 0} (f : Answer → A) (cs : List Check) (r : List ℕ) (x : Answer) → outcome cs r ≡ turned x → (z : A) → firstOf f cs z ≡ f x
 turned-on f [] r x e z = let n : _≡_ {A = ℕ} 0 1 = cc in absurd (omega arith)
 turned-on f (c ∷ cs) r x e z = go (c .applies) (λ h. turned-on f cs r x h z) e
   where

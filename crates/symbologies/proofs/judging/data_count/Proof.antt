@@ -3,8 +3,8 @@
 use native.Mathlib.Omega.{arith}
 use borrow.Author.Tests.{eq-eqb, ne-eqb}
 use borrow.Author.Needs.{needs}
-use Rattle.symbologies.proofs.limits.data_count.Statement.{statement}
-use Rattle.symbologies.proofs.limits.data_count.Tie as tie
+use Rattle.symbologies.proofs.judging.data_count.Statement.{statement}
+use Rattle.symbologies.proofs.judging.data_count.Tie as tie
 
 returns-2 : tie.Need-returns-2
 returns-2 c = rw (eq-eqb (c .before .before .args .mode) 2 (c .before .if1 .taken))

@@ -5,8 +5,8 @@ use Rattle.tables.specs.Codabar.{table41, alphabetCodabar}
 use Rattle.tables.specs.TwoOfFive.{table44, alphabetDigits}
 use Rattle.symbologies.specs.Symbologies.{symbologies, symbologyOf}
 use Rattle.symbologies.proofs.Numbers.{others}
-use Rattle.symbologies.proofs.limits.size_of.Statement.{statement}
-use Rattle.symbologies.proofs.limits.size_of.Tie as tie
+use Rattle.symbologies.proofs.row.size_of.Statement.{statement}
+use Rattle.symbologies.proofs.row.size_of.Tie as tie
 
 returns : tie.Need-returns
 unfolding symbologyOf symbologies alphabet39 chars39

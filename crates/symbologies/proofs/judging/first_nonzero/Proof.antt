@@ -4,9 +4,9 @@ use Prim.Native.Nat.{_-_}
 use native.Mathlib.Omega.{arith}
 use borrow.Author.Needs.{needs}
 use lib.ListN.{length}
-use Rattle.rows.proofs.Fields.{Zeros, none-yet, one-more, found-one, all-zero}
-use Rattle.rows.proofs.drawing.first_nonzero.Statement.{statement}
-use Rattle.rows.proofs.drawing.first_nonzero.Tie as tie
+use Rattle.symbologies.proofs.Fields.{Zeros, none-yet, one-more, found-one, all-zero}
+use Rattle.symbologies.proofs.judging.first_nonzero.Statement.{statement}
+use Rattle.symbologies.proofs.judging.first_nonzero.Tie as tie
 
 abbrev Inv-loop : tie.InvT-loop
 Inv-loop field count i₀ i = Zeros field count i

@@ -1,9 +1,9 @@
 -- Each refusal is one law of Judging, by what the tests before it said.
 -- Assumes nothing.
 use borrow.Author.Needs.{needs}
-use Rattle.symbologies.proofs.Judging.{not-known, not-offered, not-held, not-even, all-passed}
-use Rattle.symbologies.proofs.limits.judge_count.Statement.{statement}
-use Rattle.symbologies.proofs.limits.judge_count.Tie as tie
+use Rattle.symbologies.proofs.Verdicts.{not-known, not-offered, not-held, not-even, all-passed}
+use Rattle.symbologies.proofs.judging.judge_count.Statement.{statement}
+use Rattle.symbologies.proofs.judging.judge_count.Tie as tie
 
 returns : tie.Need-returns
 returns c = not-known _ _ _ _ (c .before .before .limits-of .ensures) (c .if1 .taken)
