@@ -3,8 +3,9 @@
 
 # Proves and builds the program, then prints the lines of a day's intake.
 run: examples/intake.job
+	sh .ci/packages run
 	rt check strips
-	target/bin/strips < examples/intake.job
+	sh tools/strips < examples/intake.job
 
 # The list is what a person edits. The job made of it is kept beside it, and the gate holds the two together.
 examples/intake.job: examples/intake.txt tools/job
