@@ -1,6 +1,7 @@
 // What a symbology takes, by mode, and which drawn counts it has: document 01's table.
 use super::sizes::PLACES;
 ghost use mathlib.Core.Path.{_≡_};
+ghost use mathlib.Core.Bool.{true};
 ghost use Rattle.symbologies.specs.Limits.{offered, holds, odd};
 ghost use Rattle.symbologies.specs.Symbologies.{symbologyOf};
 
@@ -19,110 +20,46 @@ pub struct Limits {
     pub rest: usize,
 }
 
+// A line of the table, in its order: what modes 0, 1 and 2 take, whether the drawn count must be even, how many may be drawn, elements, modules.
+fn line(
+    least: [u8; 3],
+    most: [u8; 3],
+    even: bool,
+    room: usize,
+    step: usize,
+    more: usize,
+    each: usize,
+    rest: usize,
+) -> Limits
+    ensures { λ r. ⌜ r ≡ record { known = true; least = least; most = most; even = even; room = room; step = step; more = more; each = each; rest = rest } ⌝ }
+{
+    Limits {
+        known: true,
+        least,
+        most,
+        even,
+        room,
+        step,
+        more,
+        each,
+        rest,
+    }
+}
+
 // The limits and lengths of a symbology, by number; any other number is not known.
 pub fn limits_of(symbology: u8) -> Limits
     ensures { λ r. ⌜ r ≡ symbologyOf symbology .limits ⌝ }
 {
     match symbology {
-        1 => Limits {
-            known: true,
-            least: [1, 2, 1],
-            most: [32, 32, 31],
-            even: false,
-            room: PLACES,
-            step: 10,
-            more: 20,
-            each: 16,
-            rest: 32,
-        },
-        2 => Limits {
-            known: true,
-            least: [1, 2, 1],
-            most: [32, 32, 31],
-            even: false,
-            room: 32,
-            step: 10,
-            more: 20,
-            each: 16,
-            rest: 32,
-        },
-        3 => Limits {
-            known: true,
-            least: [3, 0, 0],
-            most: [34, 0, 0],
-            even: false,
-            room: PLACES,
-            step: 8,
-            more: 0,
-            each: 14,
-            rest: 0,
-        },
-        4 => Limits {
-            known: true,
-            least: [1, 2, 1],
-            most: [32, 32, 31],
-            even: false,
-            room: PLACES,
-            step: 10,
-            more: 12,
-            each: 14,
-            rest: 20,
-        },
-        5 => Limits {
-            known: true,
-            least: [1, 2, 1],
-            most: [32, 32, 31],
-            even: true,
-            room: PLACES,
-            step: 5,
-            more: 8,
-            each: 9,
-            rest: 10,
-        },
-        6 => Limits {
-            known: true,
-            least: [1, 2, 1],
-            most: [32, 32, 31],
-            even: false,
-            room: PLACES,
-            step: 6,
-            more: 12,
-            each: 10,
-            rest: 16,
-        },
-        7 => Limits {
-            known: true,
-            least: [0, 13, 12],
-            most: [0, 13, 12],
-            even: false,
-            room: PLACES,
-            step: 4,
-            more: 8,
-            each: 7,
-            rest: 5,
-        },
-        8 => Limits {
-            known: true,
-            least: [0, 8, 7],
-            most: [0, 8, 7],
-            even: false,
-            room: PLACES,
-            step: 4,
-            more: 12,
-            each: 7,
-            rest: 12,
-        },
-        9 => Limits {
-            known: true,
-            least: [0, 12, 11],
-            most: [0, 12, 11],
-            even: false,
-            room: PLACES,
-            step: 4,
-            more: 12,
-            each: 7,
-            rest: 12,
-        },
+        1 => line([1, 2, 1], [32, 32, 31], false, PLACES, 10, 20, 16, 32),
+        2 => line([1, 2, 1], [32, 32, 31], false, 32, 10, 20, 16, 32),
+        3 => line([3, 0, 0], [34, 0, 0], false, PLACES, 8, 0, 14, 0),
+        4 => line([1, 2, 1], [32, 32, 31], false, PLACES, 10, 12, 14, 20),
+        5 => line([1, 2, 1], [32, 32, 31], true, PLACES, 5, 8, 9, 10),
+        6 => line([1, 2, 1], [32, 32, 31], false, PLACES, 6, 12, 10, 16),
+        7 => line([0, 13, 12], [0, 13, 12], false, PLACES, 4, 8, 7, 5),
+        8 => line([0, 8, 7], [0, 8, 7], false, PLACES, 4, 12, 7, 12),
+        9 => line([0, 12, 11], [0, 12, 11], false, PLACES, 4, 12, 7, 12),
         _ => Limits {
             known: false,
             least: [0, 0, 0],

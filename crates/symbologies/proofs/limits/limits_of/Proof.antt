@@ -1,6 +1,7 @@
 -- `limits_of` gives document 01's table: each arm is a line of it.
 -- Assumes nothing.
-use mathlib.Core.Path.{_≡_, refl, sym, ap}
+use borrow.Author.Needs.{needs}
+use mathlib.Core.Path.{_≡_, refl, sym, ap, _∙_}
 use mathlib.Core.List.{[], _∷_}
 use Prim.Native.Nat.{ℕ, zero, suc, _≤_}
 use native.Mathlib.Omega.{arith}
@@ -34,13 +35,22 @@ pub limits-of-spec : {M : Type 1} → statement M
 limits-of-spec =
     tie.close
     (tie.spec
-    (λ c. unfold symbologyOf symbologies in rw (c .match .keys1))
-    (λ c. unfold symbologyOf symbologies in rw (c .match .keys2))
-    (λ c. unfold symbologyOf symbologies in rw (c .match .keys3))
-    (λ c. unfold symbologyOf symbologies in rw (c .match .keys4))
-    (λ c. unfold symbologyOf symbologies in rw (c .match .keys5))
-    (λ c. unfold symbologyOf symbologies in rw (c .match .keys6))
-    (λ c. unfold symbologyOf symbologies in rw (c .match .keys7))
-    (λ c. unfold symbologyOf symbologies in rw (c .match .keys8))
-    (λ c. unfold symbologyOf symbologies in rw (c .match .keys9))
+    (λ c κs. search needs)
+    (λ c κs. search needs)
+    (λ c κs. search needs)
+    (λ c κs. search needs)
+    (λ c κs. search needs)
+    (λ c κs. search needs)
+    (λ c κs. search needs)
+    (λ c κs. search needs)
+    (λ c κs. search needs)
+    (λ c. c .line .ensures ∙ unfold symbologyOf symbologies in rw (c .before .match .keys1))
+    (λ c. c .line2 .ensures ∙ unfold symbologyOf symbologies in rw (c .before .match .keys2))
+    (λ c. c .line3 .ensures ∙ unfold symbologyOf symbologies in rw (c .before .match .keys3))
+    (λ c. c .line4 .ensures ∙ unfold symbologyOf symbologies in rw (c .before .match .keys4))
+    (λ c. c .line5 .ensures ∙ unfold symbologyOf symbologies in rw (c .before .match .keys5))
+    (λ c. c .line6 .ensures ∙ unfold symbologyOf symbologies in rw (c .before .match .keys6))
+    (λ c. c .line7 .ensures ∙ unfold symbologyOf symbologies in rw (c .before .match .keys7))
+    (λ c. c .line8 .ensures ∙ unfold symbologyOf symbologies in rw (c .before .match .keys8))
+    (λ c. c .line9 .ensures ∙ unfold symbologyOf symbologies in rw (c .before .match .keys9))
     (λ c. let k = c .match .rest in rest _ (k .0 .0 .0 .0 .0 .0 .0 .0 .1) (k .0 .0 .0 .0 .0 .0 .0 .1) (k .0 .0 .0 .0 .0 .0 .1) (k .0 .0 .0 .0 .0 .1) (k .0 .0 .0 .0 .1) (k .0 .0 .0 .1) (k .0 .0 .1) (k .0 .1) (k .1)))
