@@ -8,19 +8,20 @@
 --   weighs      a row passes exactly if its weighted sum, the check's own weight among the others, is 0 by the modulus
 --   one-passes  exactly one allowed character passes as the check of given others: the one that document 01 words
 --   caught      a row that passes does not pass with one of its characters replaced by another that is allowed there
+--   checked-last, place-last, others-last, passes-last    a check that stands last
 --   exchanged   a row that passes, two neighbours exchanged, passes exactly if the modulus divides the product of the differences
 --
 -- Assumes nothing.
 use mathlib.Core.Path.{_≡_, refl, sym, ap, _∙_}
 use mathlib.Core.Logic.{_↔_, _≢_, Iff·symm, Iff·trans}
 use mathlib.Core.Bool.{Bool, true}
-use mathlib.Core.List.{List, [], _∷_, _++_}
+use mathlib.Core.List.{List, [], _∷_, _++_, append-nil}
 use Prim.Native.Nat.{ℕ, zero, suc, _+_, _-_, _*_, _%_, _<_, _≤_}
 use native.Mathlib.Omega.{arith}
 use native.Mathlib.Nat.{mod-lt, mod-eq-of-lt}
 use lib.Dec.{eqb}
-use lib.ListN.{length, getD, take, drop, set, length-append, length-drop, length-set, take-append-drop}
-use lib.Seq.{length-take-le, take-at, drop-at, getD-at, set-at, split-at}
+use lib.ListN.{length, getD, take, drop, set, length-append, length-drop, length-set, take-append-drop, drop-of-length-le}
+use lib.Seq.{length-take-le, take-length, drop-length, take-at, drop-at, getD-at, set-at, split-at}
 use borrow.Author.Tests.{eqb-true, eq-eqb}
 use Rattle.laws.specs.Spelling.{Place}
 use Rattle.laws.specs.Weigh.{dot, Inverses}
@@ -212,3 +213,18 @@ module _ (rule : Rule) (most : ℕ) (s : Sound rule most) where
       let w : (dot (weightsOf rule (length r)) (swapped r i) % rule .modulus ≡ 0) ↔ (passes rule (swapped r i) ≡ true)
       = (λ z. g .0 (rw k z), λ z. rw k at (g .1 z)) in
       Iff·trans (Iff·symm w) (swaps (rule .modulus) (weightsOf rule (length r)) r i (s .above) h (weighs r b (passing-below r e) .1 e))
+
+-- ---- a check that stands last
+
+module _ (rule : Rule) (b : rule .behind ≡ 0) where
+  pub checked-last : (h : List ℕ) → checkedOf rule h ≡ h ++ (checkOf rule h ∷ [])
+  checked-last h = let e : length h - rule .behind ≡ length h = omega arith in rw (e, take-length, drop-length)
+
+  pub place-last : (n : ℕ) → placeOf rule n ≡ n - 1
+  place-last n = omega arith
+
+  pub others-last : (r : List ℕ) → 0 < length r → othersOf rule r ≡ take (length r - 1) r
+  others-last r h = rw (place-last (length r), drop-of-length-le r {i = suc (length r - 1)} (omega arith)) (append-nil (take (length r - 1) r))
+
+  pub passes-last : (r : List ℕ) → 0 < length r → passes rule r ≡ eqb (getD r (length r - 1) 0) (checkOf rule (take (length r - 1) r))
+  passes-last r h = rw (others-last r h, place-last (length r))

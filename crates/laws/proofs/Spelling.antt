@@ -15,6 +15,9 @@
 --   Below, below-test, below, below-at, below-all    every entry is below a bound; by a test; at an index; if it is at each
 --   below-set, below-split    one entry replaced by another below the bound; in two parts
 --   spell-below     every character is below a bound where every drawn one is
+--   join-append, join-found, join-stopped    characters before a reading
+--   same-stop, same-found, never    a reading is found or stopped, and one of them
+--   ends-at         what stands behind a place tells whether it is the last
 --
 -- Assumes nothing.
 use mathlib.Core.Path.{_≡_, refl, sym, ap, _∙_}
@@ -24,9 +27,10 @@ use Prim.Native.Nat.{ℕ, zero, suc, _+_, _*_, _<_, _≤_}
 use native.Mathlib.Omega.{arith}
 use native.Mathlib.Decide.{decLt}
 use native.Mathlib.Nat.{le-of-suc-le-suc, not-suc-le-zero}
-use lib.Dec.{ltb}
-use lib.ListN.{length, getD, take, drop, set}
-use borrow.Author.Tests.{ltb-true, lt-ltb}
+use lib.Dec.{eqb, ltb}
+use lib.ListN.{length, getD, take, drop, set, drop-of-length-le}
+use lib.Seq.{drop-cons}
+use borrow.Author.Tests.{eq-eqb, ne-eqb, ltb-true, lt-ltb}
 use Rattle.laws.specs.Search.{pick}
 use Rattle.laws.specs.Elements.{alike}
 use Rattle.laws.specs.Units.{Reading, found, stopped, push}
@@ -254,16 +258,16 @@ push-stopped : (c : ℕ) (z : Reading) (i : ℕ) → push c z ≡ stopped i → 
 push-stopped c (found cs) i e = cc
 push-stopped c (stopped j) i e = e
 
-join-stopped : (cs : List ℕ) (z : Reading) (i : ℕ) → join cs z ≡ stopped i → z ≡ stopped i
-join-stopped [] z i e = e
-join-stopped (c ∷ cs) z i e = join-stopped cs z i (push-stopped c (join cs z) i e)
+pub same-stop : (i j : ℕ) → stopped i ≡ stopped j → i ≡ j
+same-stop i j e = cc
+
+joined-stopped : (cs : List ℕ) (z : Reading) (i : ℕ) → join cs z ≡ stopped i → z ≡ stopped i
+joined-stopped [] z i e = e
+joined-stopped (c ∷ cs) z i e = joined-stopped cs z i (push-stopped c (join cs z) i e)
 
 stops-step : (at : ℕ) (p : List ℕ) (z : Reading) (i n : ℕ) → (z ≡ stopped i → (suc at ≤ i) × (i < suc at + n)) → took at p z ≡ stopped i → (at ≤ i) × (i < at + suc n)
 stops-step at [] z i n ih e = let q : at ≡ i = same-stop at i e in (omega arith, omega arith)
-  where
-    same-stop : (a b : ℕ) → stopped a ≡ stopped b → a ≡ b
-    same-stop a b e = cc
-stops-step at (c ∷ cs) z i n ih e = let q : (suc at ≤ i) × (i < suc at + n) = ih (join-stopped (c ∷ cs) z i e) in (omega (arith, q .0), omega (arith, q .1))
+stops-step at (c ∷ cs) z i n ih e = let q : (suc at ≤ i) × (i < suc at + n) = ih (joined-stopped (c ∷ cs) z i e) in (omega (arith, q .0), omega (arith, q .1))
 
 spell-between : (k : Coder) (d : List ℕ) (start : Bool) (at i : ℕ) → spell k start at d ≡ stopped i → (at ≤ i) × (i < at + length d)
 spell-between k [] start at i e = let q : _≡_ {A = ℕ} 0 1 = cc in absurd (omega arith)
@@ -345,3 +349,32 @@ spell-below k n l [] h start at e = rw (← found-nil h e) tt
 spell-below k n l (b ∷ bs) h start at e =
     below-step n at (k .drawn (stands start bs) b) (spell k false (suc at) bs) h (l (stands start bs) b)
     (λ g p. spell-below k n l bs g false (suc at) p) e
+
+-- ---- characters before a reading
+
+pub join-append : (xs ys : List ℕ) (z : Reading) → join (xs ++ ys) z ≡ join xs (join ys z)
+join-append [] ys z = refl
+join-append (x ∷ xs) ys z = ap (push x) (join-append xs ys z)
+
+pub join-found : (xs : List ℕ) → join xs (found []) ≡ found xs
+join-found [] = refl
+join-found (x ∷ xs) = rw (join-found xs)
+
+pub join-stopped : (xs : List ℕ) (i : ℕ) → join xs (stopped i) ≡ stopped i
+join-stopped [] i = refl
+join-stopped (x ∷ xs) i = rw (join-stopped xs i)
+
+pub same-found : (d e : List ℕ) → found d ≡ found e → d ≡ e
+same-found d e p = cc
+
+pub never : (i : ℕ) (d : List ℕ) → stopped i ≡ found d → ⊥
+never i d e = let z : _≡_ {A = ℕ} 0 1 = cc in omega arith
+
+-- ---- the last place
+
+pub ends-at : (xs : List ℕ) (i n : ℕ) → length xs ≡ n → i ≤ n → ends (drop i xs) ≡ eqb i n
+ends-at xs i n m h = go (decLt i n)
+  where
+    go : Dec (i < n) → ends (drop i xs) ≡ eqb i n
+    go (yes l) = rw (drop-cons xs i 0 (rw m l), ne-eqb i n (omega arith))
+    go (no l) = rw (drop-of-length-le xs {i = i} (omega arith), eq-eqb i n (omega arith))

@@ -7,8 +7,6 @@ use Rattle.symbologies.specs.declared.row.Rowed.{Rowed}
 use Rattle.rows.specs.declared.drawing.Filled.{Filled}
 use Rattle.rows.proofs.drawing.row_of_field.Reads as RowOfField
 use Rattle.rows.proofs.drawing.row_of_field.Kinds as RowOfFieldKinds
-use Rattle.rows.proofs.reading.data_of.Reads as DataOf
-use Rattle.rows.proofs.reading.data_of.Kinds as DataOfKinds
 
 -- the answer of an outcome as the code holds it
 abbrev filled : Rowed → Filled
@@ -19,9 +17,3 @@ row-of-field κs a p q x y h k = ap filled (only h k)
 
 pub row-of-field-places : OneBuffer 2 RowOfFieldKinds.ps RowOfFieldKinds.r (λ κs x. x .1 .1 .1 .1 .0 .now) RowOfField.Learnt
 row-of-field-places κs a p q x y h k = ap (λ (w : Rowed). w .row .codes) (only h k)
-
-pub data-of : One 1 DataOfKinds.ps DataOfKinds.r DataOf.Learnt
-data-of κs a p q x y h k = only (h .0) (k .0)
-
-pub data-of-buffer : OneBuffer 1 DataOfKinds.ps DataOfKinds.r (λ κs x. x .1 .1 .1 .0 .now) DataOf.Learnt
-data-of-buffer κs a p q x y h k = only (h .1) (k .1)

@@ -1,6 +1,5 @@
--- The refusals in their order: what each return of drawing and reading comes to, by what the tests before it said.
+-- The refusals of drawing in their order: what each return comes to, by what the tests before it said.
 --
---   checked-last, others-last, passes-last    a check that stands last
 --   drawn-long      how many characters are drawn
 --   closed-plain, closed-wrong, closed-right, closed-added    7: no check, a wrong one, a right one, one that is put in
 --   not-drawn, let-finish    5, 6, and then that
@@ -11,17 +10,17 @@
 use mathlib.Core.Path.{_≡_, refl, sym, ap, _∙_}
 use mathlib.Core.Logic.{_≢_}
 use mathlib.Core.Bool.{Bool, true, false, not}
-use mathlib.Core.List.{List, [], _∷_, _++_, append-nil}
-use Prim.Native.Nat.{ℕ, suc, _+_, _-_, _<_, _≤_}
+use mathlib.Core.List.{List, [], _∷_}
+use Prim.Native.Nat.{ℕ, _+_, _-_, _<_, _≤_}
 use native.Mathlib.Omega.{arith}
 use lib.Dec.{eqb}
-use lib.ListN.{length, getD, take, drop, set, length-append, drop-of-length-le}
-use lib.Seq.{take-length, drop-length}
+use lib.ListN.{length, getD, take, set, length-append}
+use lib.Seq.{take-length}
 use borrow.Author.Tests.{eq-eqb, ne-eqb}
 use Rattle.laws.specs.Search.{pick}
 use Rattle.laws.specs.Units.{Reading, found, stopped}
-use Rattle.laws.specs.Rules.{Rule, placeOf, othersOf, checkOf, checkedOf, passes}
-use Rattle.laws.proofs.Rules.{checked-passes}
+use Rattle.laws.specs.Rules.{checkOf, checkedOf}
+use Rattle.laws.proofs.Rules.{checked-passes, checked-last, place-last, passes-last}
 use Rattle.laws.proofs.Spelling.{spell-few, spell-long, spell-stops}
 use Rattle.words.specs.declared.Answer.{Answer}
 use Rattle.words.specs.declared.Answer.the-variants.{BadByte, BadCheck}
@@ -38,24 +37,9 @@ use Rattle.symbologies.proofs.Held.{getD-pad}
 use Rattle.symbologies.proofs.Proper.{proper, last-place}
 use Rattle.symbologies.proofs.Verdicts.{judged-none, judged-turned}
 use Rattle.rows.specs.declared.spelling.Spelled.{Spelled}
-use Rattle.rows.specs.Sums.{othersIn}
+use Rattle.sums.specs.Sums.{othersIn}
 use Rattle.rows.specs.Held.{pushed, SpelledAll, SpelledAs, closedRow, finishedRow, filledRow}
 use Rattle.rows.proofs.Spellings.{push-in}
-
--- ---- a check that stands last
-
-module _ (rule : Rule) (b : rule .behind ≡ 0) where
-  pub checked-last : (h : List ℕ) → checkedOf rule h ≡ h ++ (checkOf rule h ∷ [])
-  checked-last h = let e : length h - rule .behind ≡ length h = omega arith in rw (e, take-length, drop-length)
-
-  pub place-last : (n : ℕ) → placeOf rule n ≡ n - 1
-  place-last n = omega arith
-
-  pub others-last : (r : List ℕ) → 0 < length r → othersOf rule r ≡ take (length r - 1) r
-  others-last r h = rw (place-last (length r), drop-of-length-le r {i = suc (length r - 1)} (omega arith)) (append-nil (take (length r - 1) r))
-
-  pub passes-last : (r : List ℕ) → 0 < length r → passes rule r ≡ eqb (getD r (length r - 1) 0) (checkOf rule (take (length r - 1) r))
-  passes-last r h = rw (others-last r h, place-last (length r))
 
 pub drawn-long : (y : Symbology) (m : ℕ) (h : List ℕ) → y .rule .behind ≡ 0 → length (drawnOf y m h) ≡ length h + added m
 drawn-long y m h b = go (eqb m 2)

@@ -20,7 +20,7 @@ use borrow.Author.Tests.{eq-eqb, ne-eqb}
 use Rattle.laws.specs.Search.{pick}
 use Rattle.laws.specs.Units.{found, stopped}
 use Rattle.laws.specs.Spelling.{Coder, join, took, spell}
-use Rattle.laws.proofs.Spelling.{spell-same}
+use Rattle.laws.proofs.Spelling.{spell-same, join-append, join-found, join-stopped, same-stop, same-found, never, ends-at}
 use Rattle.words.specs.Order.{dataPlace}
 use Rattle.coders.specs.declared.Piece.{Piece}
 use Rattle.coders.specs.declared.Piece.the-variants.{Alone, Pair, Nothing}
@@ -32,11 +32,10 @@ use Rattle.symbologies.specs.Told.{pad, rowIn}
 use Rattle.symbologies.proofs.Asked.{EndsAlone}
 use Rattle.symbologies.proofs.Proper.{single}
 use Rattle.symbologies.proofs.Held.{set-pad}
-use Rattle.rows.specs.declared.check.Sum.{Sum}
-use Rattle.rows.specs.Sums.{Small, summed, Begins, Suits, ownIn, othersIn}
+use Rattle.sums.specs.declared.Sum.{Sum}
+use Rattle.sums.specs.Sums.{Small, Kept, summed, Begins, Suits, ownIn, othersIn}
+use Rattle.sums.proofs.Sums.{small-more, summed-append, checks}
 use Rattle.rows.specs.Held.{pushed, putAll, SpelledAs}
-use Rattle.rows.proofs.Sums.{small-more, summed-append, checks}
-use Rattle.rows.proofs.Measures.{join-append, join-found, join-stopped, same-stop, same-found, never, ends-at}
 
 -- ---- a list in a row
 
@@ -126,14 +125,13 @@ module _ (y : Symbology) (mode : ℕ) (text : List ℕ) (begun : Sum) (row : Row
     own-is true o = omega arith
     own-is false o = omega arith
 
-    pub taken-up : i ≢ ownIn mode (length text) → (sum' : Sum) → sum' ≡ summed sum (pieceList p) → ((j : ℕ) → Small j sum → Small (j + 2) sum')
-        → Spelling k (ownIn mode (length text)) text begun new (i + 1) sum'
-    taken-up o sum' f g =
+    pub taken-up : i ≢ ownIn mode (length text) → (sum' : Sum) → Kept 2 (2 * i) sum (pieceList p) sum' → Spelling k (ownIn mode (length text)) text begun new (i + 1) sum'
+    taken-up o sum' f =
         let l : i < ownIn mode (length text) = own-is (eqb mode 1) o in
         let a : i - ownIn mode (length text) ≡ 0 = omega arith in
         let b : i + 1 - ownIn mode (length text) ≡ 0 = omega arith in
-        next sum' (f ∙ rw (s .sum-is, a, b, summed-append) (ap (summed begun) (all (s .done) (pieceList p))))
-        (small-more (2 * i + 2) (2 * (i + 1)) sum' (omega arith) (g (2 * i) (s .small)))
+        next sum' (f .is ∙ rw (s .sum-is, a, b, summed-append) (ap (summed begun) (all (s .done) (pieceList p))))
+        (small-more (2 * i + 2) (2 * (i + 1)) sum' (omega arith) (f .small))
       where
         all : (xs ys : List ℕ) → take (length xs - 0) xs ++ ys ≡ take (length (xs ++ ys) - 0) (xs ++ ys)
         all xs ys = rw (take-all (length xs - 0) xs (omega arith), take-all (length (xs ++ ys) - 0) (xs ++ ys) (omega arith))

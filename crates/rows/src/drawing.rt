@@ -1,6 +1,6 @@
 // Data to row, with document 01's refusals in its order: 1, 2, 3, 13, 4, 5, 6, 7.
-use super::check::Sum;
 use super::spelling;
+use sums::Sum;
 use symbologies::judging;
 use symbologies::judging::Verdict;
 use symbologies::sizes::PLACES;
@@ -18,7 +18,7 @@ ghost use Rattle.symbologies.specs.Limits.{added};
 ghost use Rattle.symbologies.specs.Told.{pad, rowIn, told};
 ghost use Rattle.symbologies.specs.Symbologies.{Symbology, symbologyOf};
 ghost use Rattle.symbologies.specs.Rows.{rowOfField};
-ghost use Rattle.rows.specs.Sums.{othersIn, Checks};
+ghost use Rattle.sums.specs.Sums.{othersIn, Checks};
 ghost use Rattle.rows.specs.Held.{filledAs, closedRow, finishedRow, filledRow};
 
 // Whether the lent places hold a row, and how many characters it has; where it is turned away they hold none.
@@ -77,12 +77,11 @@ fn close(mode: u8, len: usize, right: u8, codes: &mut [u8; PLACES]) -> Filled
 // 5, 6, 7, and then the row.
 fn finish(symbology: u8, mode: u8, len: usize, sum: Sum, codes: &mut [u8; PLACES]) -> Filled
     requires { ⌜ (mode < 3) × ((0 < len) × ((len < 900) × (length (now codes) ≡ places))) ⌝ }
-    requires { ⌜ (0 < sum .modulus) × (sum .modulus ≤ 255) ⌝ }
     ensures { λ r. ⌜ ((h : List ℕ) → record { codes = now (codes .entry); len = len } ≡ rowIn h → Checks (symbologyOf symbology .rule) (othersIn mode h) sum → filledAs r (now (codes .exit)) ≡ told (finishedRow (symbologyOf symbology) mode h)) ⌝ }
 {
     match judging::judge_drawn(symbology, drawn_count(mode, len)) {
         Verdict::Turned(answer) => refuse(answer, codes),
-        Verdict::Given => close(mode, len, sum.check(), codes),
+        Verdict::Given => close(mode, len, sums::check(sum), codes),
     }
 }
 

@@ -1,7 +1,6 @@
 // Data to characters, by what the bytes of a symbology draw where they stand.
-use super::check;
-use super::check::Sum;
 use coders::Piece;
+use sums::Sum;
 use symbologies::sizes::PLACES;
 use words::DataPlace;
 ghost use mathlib.Core.Path.{_≡_};
@@ -58,8 +57,8 @@ pub fn spell_text(symbology: u8, mode: u8, text: &[u8], codes: &mut [u8; PLACES]
     ensures { λ r. ⌜ SpelledAs (symbologyOf symbology) mode (now (text .entry)) r (now (codes .exit)) ⌝ }
 {
     let n = text.len();
-    let own = check::own_of(mode, n);
-    let mut sum = check::start_of(symbology, own);
+    let own = sums::own_of(mode, n);
+    let mut sum = sums::start_of(symbology, own);
     let mut len = 0;
     let mut i = 0;
     while i < n {
@@ -73,7 +72,7 @@ pub fn spell_text(symbology: u8, mode: u8, text: &[u8], codes: &mut [u8; PLACES]
         }
         len = put(codes, len, piece);
         if i != own {
-            sum = check::take_up(sum, piece);
+            sum = sums::take_up(sum, piece);
         }
         i += 1;
     }

@@ -30,9 +30,9 @@ use Rattle.symbologies.proofs.Held.{take-pad}
 use Rattle.symbologies.proofs.Ready.{ready-counted}
 use Rattle.symbologies.proofs.Counted.{counted-few}
 use Rattle.symbologies.proofs.Exact.{seen-drawn, seen-modules}
-use Rattle.rows.specs.declared.reading.Handed.{Handed}
-use Rattle.rows.specs.declared.reading.Handed.the-variants.{Data, Turned as HandedTurned}
-use Rattle.rows.specs.Held.{dataOfRow, handedOf, written}
+use Rattle.data.specs.declared.reading.Handed.{Handed}
+use Rattle.data.specs.declared.reading.Handed.the-variants.{Data, Turned as HandedTurned}
+use Rattle.data.specs.Held.{dataOfRow, handedOf, written}
 use Rattle.strip.specs.Drawing.{Call}
 use Rattle.strip.specs.Reading.{dataSeen, readStrip, answerFor}
 use Rattle.strip.proofs.Requests.{seen-as, read-given, read-turned}

@@ -18,8 +18,8 @@ use Rattle.words.specs.Order.{Check, check, firstOf, Outcome, outcome, byteCoun
 use Rattle.symbologies.specs.Symbologies.{symbologyOf}
 use Rattle.symbologies.specs.Rows.{dataRead, dataChecks}
 use Rattle.symbologies.specs.Strips.{rowRead, seenChecks}
-use Rattle.rows.specs.declared.reading.Handed.{Handed}
-use Rattle.rows.specs.declared.reading.Handed.the-variants.{Data, Turned}
+use Rattle.data.specs.declared.reading.Handed.{Handed}
+use Rattle.data.specs.declared.reading.Handed.the-variants.{Data, Turned}
 use Rattle.strip.specs.Drawing.{Call, refused}
 
 abbrev pub dataIn : ℕ → ℕ → List ℕ → List ℕ

@@ -13,7 +13,7 @@
 // `c` has `draw` and `read` for callers from C.
 pub mod c;
 
-use rows::Handed;
+use data::Handed;
 use symbologies::judging::Verdict;
 use symbologies::lengths;
 use symbologies::row::Row;
@@ -24,7 +24,7 @@ use words::Modules;
 ghost use mathlib.Core.Path.{_≡_};
 ghost use lib.ListN.{length};
 ghost use Rattle.symbologies.specs.Told.{modulesWithin};
-ghost use Rattle.rows.specs.Held.{dataOfRow, handedOf, written};
+ghost use Rattle.data.specs.Held.{dataOfRow, handedOf, written};
 ghost use Rattle.units.specs.Laid.{charsOf, laidOf, laidIn};
 ghost use Rattle.strip.specs.Drawing.{drawData, drawField, answerOf};
 ghost use Rattle.strip.specs.Reading.{readStrip, answerFor};
@@ -89,7 +89,7 @@ fn hand_back(symbology: u8, mode: u8, row: Row, out: &mut [u8]) -> Answer
     ensures { λ r. ⌜ r ≡ answerFor (handedOf (dataOfRow symbology mode row) (length (now (out .entry)))) (modulesWithin symbology row) ⌝ }
     ensures { λ _. ⌜ now (out .exit) ≡ written (dataOfRow symbology mode row) (now (out .entry)) ⌝ }
 {
-    let handed = rows::data_of(symbology, mode, row, out);
+    let handed = data::data_of(symbology, mode, row, out);
     match handed {
         Handed::Turned(answer) => answer,
         Handed::Data(bytes) => Answer::HandedBack(

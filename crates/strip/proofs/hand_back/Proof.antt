@@ -2,7 +2,7 @@
 -- Assumes nothing.
 use mathlib.Core.Path.{sym, ap, _∙_}
 use borrow.Author.Needs.{needs}
-use Rattle.rows.specs.declared.reading.Handed.{Handed}
+use Rattle.data.specs.declared.reading.Handed.{Handed}
 use Rattle.symbologies.specs.Told.{modulesWithin}
 use Rattle.strip.specs.Reading.{answerFor}
 use Rattle.strip.proofs.hand_back.Statement.{statement}

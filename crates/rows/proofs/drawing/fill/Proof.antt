@@ -19,7 +19,7 @@ finish-requires c κs =
     let a = c .before .before .before .before .before .before .before in
     let s = c .before .before .before .before .spell-text in
     let w = whole-text (symbologyOf (a .args .symbology)) (a .args .mode) (a .args .text .now) (s .result) _ (s .ensures) (c .before .if1 .left) in
-    ((a .pre .0, (some-chars (a .args .symbology) _ _ _ _ w (a .pre .1 .0 .0), (few-chars (a .args .symbology) _ _ _ _ w (a .pre .1 .0 .1), row-long _ (w .body) (w .all .row)))), (w .all .sum .above, w .all .sum .byte))
+    (a .pre .0, (some-chars (a .args .symbology) _ _ _ _ w (a .pre .1 .0 .0), (few-chars (a .args .symbology) _ _ _ _ w (a .pre .1 .0 .1), row-long _ (w .body) (w .all .row))))
 
 returns-2 : tie.Need-returns-2
 returns-2 c =

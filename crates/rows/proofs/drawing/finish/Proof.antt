@@ -16,7 +16,7 @@ close-requires c κs =
     let a = c .before .before .before .before .before .before in
     let n = c .before .before .before .before .before .drawn-count .ensures in
     let v = drawn-few (a .args .symbology) _ (sym (c .before .before .before .before .judge-drawn .ensures) ∙ c .before .before .enum-told .given .1) in
-    (a .pre .0 .0, (a .pre .0 .1 .0, (omega (arith, n, v), a .pre .0 .1 .1 .1)))
+    (a .pre .0, (a .pre .1 .0, (omega (arith, n, v), a .pre .1 .1 .1)))
 
 returns : tie.Need-returns
 returns c h e k =
@@ -27,7 +27,7 @@ returns c h e k =
 returns-2 : tie.Need-returns-2
 returns-2 c h e k =
     let a = c .before .before .before .before .before .before .before .args in
-    c .close .ensures (symbologyOf (a .symbology)) h (last-place (a .symbology)) e (c .before .before .check .ensures ∙ k .is)
+    c .close .ensures (symbologyOf (a .symbology)) h (last-place (a .symbology)) e (c .before .before .check .ensures ∙ k)
     ∙ let-finish (a .symbology) (a .mode) h _ _ (ap (λ (r : Row). r .len) e) (c .before .before .before .before .before .before .drawn-count .ensures) (sym (c .before .before .before .before .before .judge-drawn .ensures) ∙ c .before .before .before .enum-told .given .1)
 
 pub finish-spec : {M : Type 1} → statement M

@@ -2,15 +2,15 @@
 -- Assumes nothing.
 use mathlib.Core.Path.{refl, sym, _∙_}
 use mathlib.Core.Logic.{⊎-elim, inl}
-use Prim.Native.Nat.{_*_, _-_}
+use Prim.Native.Nat.{_-_}
 use native.Mathlib.Omega.{arith}
 use borrow.Author.Needs.{needs}
 use lib.ListN.{length}
 use Rattle.symbologies.specs.Symbologies.{symbologyOf}
 use Rattle.symbologies.proofs.Held.{row-long}
 use Rattle.symbologies.proofs.Proper.{proper}
-use Rattle.rows.specs.Sums.{ownIn}
-use Rattle.rows.proofs.Sums.{small-more}
+use Rattle.sums.specs.Sums.{ownIn}
+use Rattle.sums.proofs.Sums.{begins}
 use Rattle.rows.proofs.Spellings.{Spelling, start, few-chars, refused, taken-up, left-out, ended}
 use Rattle.rows.proofs.spelling.spell_text.Statement.{statement}
 use Rattle.rows.proofs.spelling.spell_text.Tie as tie
@@ -22,7 +22,7 @@ abbrev μ-loop : tie.MeasureT-loop
 μ-loop symbology mode text codes₀ n own sum₀ len₀ i₀ codes sum len i = length text - i
 
 loop-holds : tie.Need-loop-holds Inv-loop μ-loop
-loop-holds c = start _ _ _ _ _ (c .before .before .before .pre .1) (c .start-of .ensures (c .before .own-of .result) (inl refl) .small)
+loop-holds c = start _ _ _ _ _ (c .before .before .before .pre .1) (begins (c .before .before .before .args .symbology) _ _ (c .start-of .ensures) (c .before .own-of .result) (inl refl) .small)
 
 returns : tie.Need-returns Inv-loop μ-loop
 returns c =
@@ -35,11 +35,6 @@ put-requires c κs =
     let s = c .before .before .before .before .before .before .loop .inv in
     (few-chars _ _ _ _ _ _ _ s (omega arith), row-long _ (s .done) (s .is))
 
-take-up-requires : tie.Need-take-up-requires Inv-loop μ-loop
-take-up-requires c κs =
-    let l = c .before .before .before .before .before .before .before .before .loop in
-    small-more (2 * l .i) 80 (l .sum) (omega arith) (l .inv .small)
-
 loop-again : tie.Need-loop-again Inv-loop μ-loop
 loop-again c =
     let a = c .before .before .before .before .before .before .before .before .before .before .before .before in
@@ -50,14 +45,14 @@ loop-again c =
     let t = c .before .before .before .if1 .left in
     let o = c .before .before .before .before .before .before .before .before .before .before .own-of .ensures in
     ⊎-elim
-    (λ w. taken-up (symbologyOf (a .args .symbology)) _ _ _ _ _ _ s h (d .result) (d .ensures) _ n t _ (c .before .put .ensures .0) (λ q. w .0 .taken (q ∙ sym o)) _ (w .2 ∙ w .1 .ensures .0) (λ j k. rw (w .2) (w .1 .ensures .1 j k)))
+    (λ w. taken-up (symbologyOf (a .args .symbology)) _ _ _ _ _ _ s h (d .result) (d .ensures) _ n t _ (c .before .put .ensures .0) (λ q. w .0 .taken (q ∙ sym o)) _ (rw (w .2) (w .1 .ensures .1 _ (omega (arith, h, a .pre .0 .1)) (s .small))))
     (λ w. rw (w .1) (left-out (symbologyOf (a .args .symbology)) _ _ _ _ _ _ s h (d .result) (d .ensures) _ n t _ (c .before .put .ensures .0) (λ q. rw q (proper (a .args .symbology) .ends)) (w .0 .left ∙ o)))
     (c .if2 .came)
 
 returns-2 : tie.Need-returns-2 Inv-loop μ-loop
 returns-2 c =
     let a = c .before .before .before .before .before in
-    ended (a .args .symbology) _ _ (a .pre .0 .0) _ (λ k u. c .before .before .start-of .ensures k (rw (c .before .before .before .own-of .ensures) u)) _ _ _ (c .before .loop .inv) (c .loop-test .left)
+    ended (a .args .symbology) _ _ (a .pre .0 .0) _ (λ k u. begins (a .args .symbology) _ _ (c .before .before .start-of .ensures) k (rw (c .before .before .before .own-of .ensures) u)) _ _ _ (c .before .loop .inv) (c .loop-test .left)
 
 pub spell-text-spec : {M : Type 1} → statement M
 spell-text-spec =
@@ -74,7 +69,7 @@ spell-text-spec =
     (λ c κs. search needs)
     returns
     put-requires
-    take-up-requires
+    (λ c κs. search needs)
     (λ c. omega arith)
     (λ c. omega arith)
     loop-again
