@@ -1,5 +1,5 @@
-// The refusals that limits alone decide, in document 01's order: of a field with its count, of a number of drawn characters that is drawn,
-// and of one that is read.
+// The refusals that limits alone decide, in document 01's order: of a field with its count, of a number of characters that are to be drawn,
+// and of one that was drawn.
 use super::limits::is_odd;
 use super::limits::limits_of;
 use super::limits::offers;
