@@ -110,7 +110,7 @@ module _ (s m : ℕ) (h : List ℕ) (len count : ℕ) (k : len ≡ length h) (n 
 pub record Whole (y : Symbology) (m : ℕ) (text : List ℕ) (r : Spelled) (codes : List ℕ) : Type 0 where
   pub body : List ℕ
   pub is : spelled y m text ≡ found body
-  pub all : SpelledAll y m (length text) body r codes
+  pub all : SpelledAll y m text body r codes
 
 module _ (y : Symbology) (m : ℕ) (text : List ℕ) (r : Spelled) (codes : List ℕ) (s : SpelledAs y m text r codes) where
   pub bad-byte : r .bad .0 < length text → told (turned (BadByte (r .bad))) ≡ told (filledRow y m text)

@@ -27,14 +27,14 @@ abbrev pub putAll : Row → List ℕ → Row
 putAll r [] = r
 putAll r (c ∷ cs) = putAll (pushed r c) cs
 
-pub record SpelledAll (y : Symbology) (m n : ℕ) (h : List ℕ) (r : Spelled) (codes : List ℕ) : Type 0 where
-  pub whole : r .bad .0 ≡ n
+pub record SpelledAll (y : Symbology) (m : ℕ) (text h : List ℕ) (r : Spelled) (codes : List ℕ) : Type 0 where
+  pub whole : r .bad .0 ≡ length text
   pub row : record { codes = codes; len = r .len } ≡ rowIn h
   pub sum : Checks (y .rule) (othersIn m h) (r .sum)
 
 pub record SpelledAs (y : Symbology) (m : ℕ) (text : List ℕ) (r : Spelled) (codes : List ℕ) : Type 0 where
   pub stop : (i : ℕ) → spelled y m text ≡ stopped i → r .bad .0 ≡ i
-  pub all : (h : List ℕ) → spelled y m text ≡ found h → SpelledAll y m (length text) h r codes
+  pub all : (h : List ℕ) → spelled y m text ≡ found h → SpelledAll y m text h r codes
 
 -- ---- what the calls answer
 
