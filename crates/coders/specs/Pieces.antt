@@ -4,7 +4,7 @@
 --   drawnAs     the number of the symbology whose characters stand at a place: full ASCII's last byte is, in mode 1, a raw character of
 --               Code 39
 --   edge        a place that is the first and the last; full ASCII draws the same at every place
-use mathlib.Core.Bool.{Bool, true, false, _&&_}
+use mathlib.Core.Bool.{Bool, true, false}
 use mathlib.Core.List.{List, [], _∷_}
 use Prim.Native.Nat.{ℕ}
 use lib.Dec.{eqb}

@@ -6,7 +6,7 @@ ghost use mathlib.Core.Path.{_≡_};
 ghost use mathlib.Core.List.{[], _∷_};
 ghost use lib.Dec.{ltb};
 ghost use Rattle.laws.specs.Search.{pick};
-ghost use Rattle.laws.specs.Spelling.{Place, isEnd, byteFor};
+ghost use Rattle.laws.specs.Spelling.{isEnd, byteFor};
 ghost use Rattle.symbologies.specs.Coders.{single, placed};
 ghost use Rattle.symbologies.specs.Symbologies.{symbologyOf};
 ghost use Rattle.coders.specs.Pieces.{pieceList, isNil, drawnAs};

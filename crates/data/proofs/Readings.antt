@@ -6,10 +6,10 @@
 --   count-turned, count-given, count-fits    1, 2, 9: a count that is turned away, and one that is not
 --
 -- Assumes nothing.
-use mathlib.Core.Path.{_≡_, refl, sym, ap, _∙_}
+use mathlib.Core.Path.{_≡_, refl, ap, _∙_}
 use mathlib.Core.Logic.{_≢_}
 use mathlib.Core.Bool.{Bool, true, false, not}
-use mathlib.Core.List.{List, [], _++_}
+use mathlib.Core.List.{List, _++_}
 use Prim.Native.Nat.{ℕ, zero, suc, _-_, _<_, _≤_}
 use native.Mathlib.Omega.{arith}
 use lib.Dec.{eqb}
@@ -25,10 +25,9 @@ use Rattle.laws.proofs.Rules.{place-last, others-last, passes-last}
 use Rattle.laws.proofs.Spelling.{unspell-stops}
 use Rattle.words.specs.declared.Answer.{Answer}
 use Rattle.words.specs.declared.Answer.the-variants.{BadCheck, NoExpansion, ShortForData}
-use Rattle.words.specs.Order.{Check, firstOf, Outcome, gives, turned, outcome, charPlace, byteCount}
+use Rattle.words.specs.Order.{Check, firstOf, Outcome, gives, turned, charPlace, byteCount}
 use Rattle.words.proofs.Order.{first-append, None, none-on}
 use Rattle.symbologies.specs.declared.row.Row.{Row}
-use Rattle.symbologies.specs.declared.judging.Verdict.{Verdict}
 use Rattle.symbologies.specs.declared.judging.Verdict.the-variants.{Given, Turned as VerdictTurned}
 use Rattle.symbologies.specs.Sizes.{places}
 use Rattle.symbologies.specs.Limits.{holds, odd, added}

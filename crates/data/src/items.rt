@@ -96,7 +96,7 @@ fn width_at(symbology: u8, mode: u8, codes: &[u8; PLACES], at: usize, n: usize) 
 // The sum with the characters of an item.
 fn take_item(sum: Sum, codes: &[u8; PLACES], at: usize, width: usize) -> Sum
     requires { ⌜ (length (now codes) ≡ places) × ((at + width ≤ places) × ((0 < width) × (width ≤ 2))) ⌝ }
-    ensures { λ r. ⌜ ((i : ℕ) → i ≤ 80 → Small i sum → Kept 2 i sum (take width (drop at (now (codes .entry)))) r) ⌝ }
+    ensures { λ r. ⌜ ((i : ℕ) → i ≤ 1000 → Small i sum → Kept 2 i sum (take width (drop at (now (codes .entry)))) r) ⌝ }
 {
     if width == 2 {
         return sums::take_up(sum, Piece::Pair(codes[at], codes[at + 1]));

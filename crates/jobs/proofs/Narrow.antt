@@ -7,13 +7,12 @@
 --
 -- Assumes nothing.
 use mathlib.Core.Path.{_≡_, refl}
-use mathlib.Core.Bool.{Bool, true, false, _&&_}
+use mathlib.Core.Bool.{Bool, true, _&&_}
 use mathlib.Core.List.{List, [], _∷_, _++_}
 use Prim.Native.Nat.{ℕ, zero, suc, _≤_}
-use lib.Dec.{leb, ltb}
+use lib.Dec.{leb}
 use lib.ListN.{length, getD, take, drop, replicate}
 use borrow.Author.Tests.{leb-true}
-use Rattle.laws.specs.Search.{pick}
 use Rattle.laws.specs.Units.{Kind, fixed, free, strip}
 use Rattle.laws.specs.Shapes.{many}
 use Rattle.laws.proofs.Finite.{both-left, both-right, both-true}
@@ -23,7 +22,6 @@ use Rattle.tables.specs.Code39.{table42, chars39, alphabet39, rows39, star39}
 use Rattle.tables.specs.Codabar.{table41, alphabetCodabar, innerRows, letterRows}
 use Rattle.tables.specs.TwoOfFive.{table44, alphabetDigits, digitRows, industrialRows, industrialStart, industrialStop, interleavedRows, interleavedStart, interleavedStop, matrixRows, matrixEnds}
 use Rattle.tables.specs.Ean.{table52, patterns, oddRows, evenRows, leftRows, rightRows, guard, centre}
-use Rattle.words.specs.declared.Answer.{Answer}
 use Rattle.words.proofs.Order.{first-each}
 use Rattle.symbologies.specs.Sizes.{longest}
 use Rattle.symbologies.specs.Limits.{unknown}

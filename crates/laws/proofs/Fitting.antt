@@ -9,17 +9,17 @@
 --   free-inserted   and with another put in anywhere it is still one
 --
 -- Assumes nothing.
-use mathlib.Core.Path.{_≡_, refl, sym, ap, _∙_}
-use mathlib.Core.Bool.{Bool, true, false, _&&_}
-use mathlib.Core.List.{List, [], _∷_, _++_}
-use Prim.Native.Nat.{ℕ, zero, suc, _+_, _<_, _≤_}
+use mathlib.Core.Path.{_≡_, refl}
+use mathlib.Core.Bool.{Bool, true, false}
+use mathlib.Core.List.{List, [], _∷_}
+use Prim.Native.Nat.{ℕ, zero, suc, _<_}
 use lib.Dec.{eqb·suc-suc, eqb·suc-zero, eqb·zero-suc}
 use native.Mathlib.Omega.{arith}
 use lib.Dec.{eqb, ltb}
-use lib.ListN.{length, getD, take, drop, set}
+use lib.ListN.{length, getD, set}
 use borrow.Author.Tests.{ltb-true, lt-ltb}
-use Rattle.laws.specs.Units.{Reading, found, stopped, push}
-use Rattle.laws.specs.Spelling.{Place, ends, stands, fitting, Coder, join, took, spell}
+use Rattle.laws.specs.Units.{Reading, found, push}
+use Rattle.laws.specs.Spelling.{Place, ends, stands, fitting, Coder, took, spell}
 use Rattle.laws.specs.Rules.{inserted}
 use Rattle.laws.proofs.Finite.{both-left, both-right, both-true}
 use Rattle.laws.proofs.Strips.{push-some, push-none}

@@ -18,12 +18,11 @@ use mathlib.Core.Bool.{Bool, true}
 use mathlib.Core.List.{List, [], _∷_, _++_, append-nil}
 use Prim.Native.Nat.{ℕ, zero, suc, _+_, _-_, _*_, _%_, _<_, _≤_}
 use native.Mathlib.Omega.{arith}
-use native.Mathlib.Nat.{mod-lt, mod-eq-of-lt}
+use native.Mathlib.Nat.{mod-lt}
 use lib.Dec.{eqb}
 use lib.ListN.{length, getD, take, drop, set, length-append, length-drop, length-set, take-append-drop, drop-of-length-le}
 use lib.Seq.{length-take-le, take-length, drop-length, take-at, drop-at, getD-at, set-at, split-at}
 use borrow.Author.Tests.{eqb-true, eq-eqb}
-use Rattle.laws.specs.Spelling.{Place}
 use Rattle.laws.specs.Weigh.{dot, Inverses}
 use Rattle.laws.specs.Rules.{inserted, without, Rule, placeOf, othersOf, checkOf, checkedOf, passes, weightsOf}
 use Rattle.laws.specs.Neighbours.{swapped, difference}

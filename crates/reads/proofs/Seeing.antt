@@ -9,17 +9,16 @@
 -- Assumes nothing.
 use mathlib.Core.Path.{_≡_, refl, sym, ap, _∙_}
 use mathlib.Core.Bool.{Bool, true, false}
-use mathlib.Core.List.{List, [], _∷_}
+use mathlib.Core.List.{List, []}
 use Prim.Native.Nat.{ℕ, _<_, _≤_}
 use native.Mathlib.Omega.{arith}
 use lib.Dec.{ltb}
 use lib.ListN.{length, getD}
 use borrow.Author.Tests.{lt-ltb, le-ltb, not-false}
-use Rattle.laws.specs.Search.{pick}
 use Rattle.laws.specs.Units.{Reading, found, stopped, read}
 use Rattle.words.specs.declared.Answer.{Answer}
 use Rattle.words.specs.declared.Answer.the-variants.{NoSuchUnit, NoSuchParities}
-use Rattle.words.specs.Order.{Check, firstOf, Outcome, turned}
+use Rattle.words.specs.Order.{Check, firstOf, turned}
 use Rattle.words.proofs.Order.{None, none-on}
 use Rattle.tables.specs.Ean.{firstDigit}
 use Rattle.symbologies.specs.declared.row.Row.{Row}

@@ -40,7 +40,7 @@ use Rattle.symbologies.specs.Rows.{rowOf}
 use Rattle.symbologies.specs.Strips.{elementsOf, modulesOf, stripOf}
 use Rattle.strip.specs.Bench.{charsOf}
 use Rattle.strip.specs.Drawing.{Call, drawingChecks, drawField, drawData, drawnAnswer}
-use Rattle.strip.specs.Reading.{readingChecks, readStrip, handedAnswer}
+use Rattle.strip.specs.Reading.{readingChecks, handedAnswer}
 use Rattle.strip.proofs.Order.{draw-first, read-first}
 use Rattle.strip.proofs.Alone.{five-alone, six-alone, no-thirteen, eleven-alone, twelve-alone}
 use Rattle.strip.proofs.Requests.{Draws, draw-whole, drawn-is, draw-keeps, data-keeps, same-bytes, read-whole, read-drawn, one-element, one-character, read-keeps}

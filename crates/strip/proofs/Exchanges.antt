@@ -9,11 +9,10 @@
 -- Assumes nothing.
 use mathlib.Core.Path.{_≡_, refl, sym, ap, _∙_}
 use mathlib.Core.Logic.{_≢_, _↔_, _⊎_, inl, inr, Iff·trans}
-use mathlib.Core.Bool.{Bool, true, false, _&&_, not}
-use mathlib.Core.List.{List, _∷_, [], _++_}
+use mathlib.Core.Bool.{Bool, true, false, not}
+use mathlib.Core.List.{List, _++_}
 use Prim.Native.Nat.{ℕ, suc, _-_, _<_, _≤_}
 use native.Mathlib.Omega.{arith}
-use lib.Dec.{eqb}
 use lib.ListN.{length, getD, take, drop, length-map}
 use lib.Seq.{length-take-le}
 use borrow.Author.Tests.{le-ltb, ne-eqb}
@@ -31,17 +30,16 @@ use Rattle.words.specs.Order.{Outcome, gives, turned, outcome, charPlace, byteC
 use Rattle.tables.specs.Alphabet.{size, byteOf}
 use Rattle.symbologies.specs.Limits.{added}
 use Rattle.symbologies.specs.Symbologies.{symbologyOf}
-use Rattle.symbologies.specs.Rows.{wrongAt, stops, stopAt, finds, rowOf, charsRead, unspelled, dataRead, dataChecks, dataOf}
+use Rattle.symbologies.specs.Rows.{wrongAt, stops, stopAt, finds, rowOf, charsRead, unspelled, dataRead, dataChecks}
 use Rattle.symbologies.specs.Strips.{stripOf}
-use Rattle.symbologies.proofs.Proper.{proper, undo, last-place}
+use Rattle.symbologies.proofs.Proper.{undo, last-place}
 use Rattle.symbologies.proofs.Undo.{Reads, reads}
-use Rattle.symbologies.proofs.Within.{row-few}
 use Rattle.symbologies.proofs.Ready.{ready-below, no-codabar, drawn-ready}
 use Rattle.symbologies.proofs.Plain.{Plain, chars-front, plain-read, data-long, digits-are-plain, code39-is-plain}
 use Rattle.symbologies.proofs.Exchanges.{digits-passes, before-passes, last-passes}
 use Rattle.strip.specs.Bench.{charsOf}
 use Rattle.strip.specs.Drawing.{Call, refused}
-use Rattle.strip.specs.Reading.{dataSeen, handed, readStrip}
+use Rattle.strip.specs.Reading.{dataSeen, readStrip}
 use Rattle.strip.proofs.Requests.{Draws, seen-data, read-given, read-turned, read-exactly, read-whole, relaid-seen}
 
 -- the strip t is laid out anew from an accepted request's row, of which the drawn characters at `place` and behind it are exchanged; the check is

@@ -6,32 +6,29 @@
 -- Assumes nothing.
 use mathlib.Core.Path.{_≡_, refl, sym, ap, _∙_}
 use mathlib.Core.Bool.{Bool, true, false}
-use mathlib.Core.List.{List, _++_}
+use mathlib.Core.List.{List}
 use Prim.Native.Nat.{ℕ, _≤_}
 use native.Mathlib.Omega.{arith}
 use lib.Dec.{ltb}
-use lib.ListN.{length, take, drop}
+use lib.ListN.{length}
 use borrow.Author.Tests.{le-leb}
 use Rattle.laws.specs.Search.{pick}
 use Rattle.laws.specs.Elements.{sum}
 use Rattle.words.specs.declared.Answer.{Answer}
-use Rattle.words.specs.declared.Answer.the-variants.{ShortForData}
-use Rattle.words.specs.Order.{Outcome, gives, turned, byteCount}
+use Rattle.words.specs.Order.{Outcome, gives, turned}
 use Rattle.words.proofs.Order.{first-turned}
 use Rattle.symbologies.specs.declared.row.Rowed.{Rowed}
-use Rattle.symbologies.specs.declared.row.Row.{Row}
 use Rattle.symbologies.specs.declared.judging.Verdict.the-variants.{Given as given-row, Turned}
 use Rattle.symbologies.specs.Sizes.{places}
 use Rattle.symbologies.specs.Symbologies.{symbologyOf}
 use Rattle.symbologies.specs.Rows.{dataRead, dataChecks, dataOf}
-use Rattle.symbologies.specs.Strips.{ready, rowRead, seenChecks, rowSeen}
+use Rattle.symbologies.specs.Strips.{rowRead, seenChecks, rowSeen}
 use Rattle.symbologies.specs.Told.{rowIn, told, modulesWithin}
 use Rattle.symbologies.proofs.Held.{take-pad}
 use Rattle.symbologies.proofs.Ready.{ready-counted}
 use Rattle.symbologies.proofs.Counted.{counted-few}
 use Rattle.symbologies.proofs.Exact.{seen-drawn, seen-modules}
 use Rattle.data.specs.declared.reading.Handed.{Handed}
-use Rattle.data.specs.declared.reading.Handed.the-variants.{Data, Turned as HandedTurned}
 use Rattle.data.specs.Held.{dataOfRow, handedOf, written}
 use Rattle.strip.specs.Drawing.{Call}
 use Rattle.strip.specs.Reading.{dataSeen, readStrip, answerFor}

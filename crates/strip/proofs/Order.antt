@@ -16,7 +16,6 @@ use Prim.Native.Nat.{ℕ}
 use native.Mathlib.Omega.{arith}
 use lib.ListN.{take}
 use Rattle.laws.specs.Search.{pick}
-use Rattle.words.specs.declared.Answer.{Answer}
 use Rattle.words.specs.Said.{saidOf}
 use Rattle.words.specs.Order.{Check, firstOf}
 use Rattle.words.proofs.Order.{first-through, None, Refusals, zero-none}

@@ -12,16 +12,13 @@
 -- Assumes nothing.
 use mathlib.Core.Path.{_≡_, refl, sym, ap, _∙_}
 use mathlib.Core.Logic.{_≢_, _↔_}
-use mathlib.Core.Bool.{Bool, true, false}
-use mathlib.Core.List.{List, [], _∷_, _++_}
+use mathlib.Core.Bool.{true}
+use mathlib.Core.List.{List, [], _∷_}
 use Prim.Native.Nat.{ℕ, _<_, _≤_}
 use native.Mathlib.Omega.{arith}
-use lib.Dec.{ltb}
 use lib.ListN.{length, getD, take, drop, set, length-set}
 use lib.Seq.{take-at}
 use borrow.Author.Tests.{le-ltb, lt-ltb}
-use Rattle.laws.specs.Search.{pick}
-use Rattle.laws.specs.Elements.{sum}
 use Rattle.laws.specs.Units.{Fits}
 use Rattle.laws.proofs.Spelling.{Below, below-set}
 use Rattle.laws.proofs.Fitting.{at}
@@ -34,7 +31,7 @@ use Rattle.words.proofs.Order.{None, none-on, none-split, given, first-given, f
 use Rattle.tables.specs.Alphabet.{size}
 use Rattle.symbologies.specs.Limits.{drawable}
 use Rattle.symbologies.specs.Symbologies.{Symbology, symbologyOf}
-use Rattle.symbologies.specs.Rows.{rowDrawn, rowChecks, rowOfField, rowOf, dataRead, countChecks, dataChecks, dataOfCount, dataOf}
+use Rattle.symbologies.specs.Rows.{rowDrawn, rowChecks, rowOfField, rowOf, dataRead, dataChecks, dataOfCount, dataOf}
 use Rattle.symbologies.specs.Strips.{elementsOf, unitsOf, stripOf, counted, ready, countFor, rowRead, seenChecks, rowSeen}
 use Rattle.symbologies.proofs.Proper.{proper, undo}
 use Rattle.symbologies.proofs.Undo.{Reads, reads}
@@ -44,7 +41,7 @@ use Rattle.symbologies.proofs.Totals.{elements}
 use Rattle.symbologies.proofs.Counting.{same-count}
 use Rattle.symbologies.proofs.Shown.{Shown, shown-row}
 use Rattle.symbologies.proofs.Exact.{ready-seen, drawn-seen, seen-drawn}
-use Rattle.strip.specs.Drawing.{Call, refused, drawn, shortFor, drawingChecks, drawField, drawData}
+use Rattle.strip.specs.Drawing.{refused, drawn, shortFor, drawingChecks, drawField, drawData}
 use Rattle.strip.specs.Reading.{dataIn, dataSeenChecks, dataSeen, shortData, readingChecks, handed, readStrip}
 use Rattle.strip.proofs.Fields.{field-data}
 use Rattle.strip.proofs.Order.{draw-none, read-none, kept}

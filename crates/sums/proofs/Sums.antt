@@ -2,6 +2,7 @@
 --
 --   product       a weight times a byte is far from overflow
 --   small-taken   a small sum stays small with one value more; small-more, and later
+--   one-more, kept-one, kept-more, kept-two, kept-none    what is taken up by the machine's word; a small sum is kept as it is
 --   summed-append    values taken up one list behind the other
 --   state         "its state after each character is the definition's" (document 01): the weighted sum of the characters up to it, by the
 --                 weights of the rule
@@ -26,7 +27,7 @@ use Rattle.laws.specs.Rules.{Rule, checkOf}
 use Rattle.laws.proofs.Finite.{from-at}
 use Rattle.laws.proofs.Weigh.{turns-turned}
 use Rattle.symbologies.specs.Limits.{unknown}
-use Rattle.symbologies.specs.Checks.{upTo, by43, right10, noCheck}
+use Rattle.symbologies.specs.Checks.{by43, right10, noCheck}
 use Rattle.symbologies.specs.Parts.{each}
 use Rattle.symbologies.specs.Symbologies.{digits, symbologies, symbologyOf}
 use Rattle.sums.specs.declared.Sum.{Sum}
@@ -199,7 +200,7 @@ pub one-more : (s : Sum) (v t : ℕ) → t ≡ (s .total + s .weight * v) % 2 ^ 
     → record { modulus = s .modulus; up = s .up; weight = s .other; other = s .weight; total = t } ≡ wrapped s (v ∷ [])
 one-more s v t e = rw e
 
-pub kept-one : (i : ℕ) (s r : Sum) (v : ℕ) → v ≤ 255 → i ≤ 90 → Small i s → r ≡ wrapped s (v ∷ []) → Kept 1 i s (v ∷ []) r
+pub kept-one : (i : ℕ) (s r : Sum) (v : ℕ) → v ≤ 255 → i ≤ 1001 → Small i s → r ≡ wrapped s (v ∷ []) → Kept 1 i s (v ∷ []) r
 kept-one i s r v l h g e =
     let p : s .weight * v ≤ 25500 = product (g .weight) l in
     let t : (s .total + s .weight * v) % 2 ^ 64 ≡ s .total + s .weight * v = omega (arith, g .total, p) in

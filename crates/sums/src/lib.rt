@@ -5,7 +5,7 @@
 use coders::Piece;
 ghost use mathlib.Core.Path.{_≡_};
 ghost use mathlib.Core.List.{[], _∷_};
-ghost use Prim.Native.Nat.{ℕ, _+_, _≤_};
+ghost use Prim.Native.Nat.{ℕ, _≤_};
 ghost use Rattle.coders.specs.Pieces.{pieceList};
 ghost use Rattle.symbologies.specs.Symbologies.{symbologyOf};
 ghost use Rattle.sums.specs.Sums.{Small, Kept, wrapped, checkBy, begun, ownIn};
@@ -53,7 +53,7 @@ fn sum_by(modulus: u8, up: bool, weight: u8, other: u8) -> Sum
 // With one value more.
 fn take(sum: Sum, value: u8) -> Sum
     ensures { λ r. ⌜ r ≡ wrapped sum (value ∷ []) ⌝ }
-    ensures { λ r. ⌜ ((i : ℕ) → i ≤ 90 → Small i sum → Kept 1 i sum (value ∷ []) r) ⌝ }
+    ensures { λ r. ⌜ ((i : ℕ) → i ≤ 1001 → Small i sum → Kept 1 i sum (value ∷ []) r) ⌝ }
 {
     Sum {
         modulus: sum.modulus,
@@ -67,7 +67,7 @@ fn take(sum: Sum, value: u8) -> Sum
 // With the characters of a piece. A sum of few characters is kept as it is; another one goes round with the machine's word.
 pub fn take_up(sum: Sum, piece: Piece) -> Sum
     ensures { λ r. ⌜ r ≡ wrapped sum (pieceList piece) ⌝ }
-    ensures { λ r. ⌜ ((i : ℕ) → i ≤ 80 → Small i sum → Kept 2 i sum (pieceList piece) r) ⌝ }
+    ensures { λ r. ⌜ ((i : ℕ) → i ≤ 1000 → Small i sum → Kept 2 i sum (pieceList piece) r) ⌝ }
 {
     match piece {
         Piece::Alone(value) => take(sum, value),

@@ -14,7 +14,7 @@ use native.Mathlib.Omega.{arith}
 use native.Mathlib.Nat.{mod-eq-of-lt, zero-mod, zero-mul}
 use native.Mathlib.Decide.{ℕ-discrete}
 use lib.Dec.{eqb, ltb}
-use lib.ListN.{length, getD, take, drop, List·getD-append, drop-of-length-le}
+use lib.ListN.{length, getD, List·getD-append, drop-of-length-le}
 use lib.Seq.{getD-at, take-all}
 use borrow.Author.Tests.{eqb-true, ne-eqb}
 use Rattle.laws.specs.Search.{pick}
@@ -37,7 +37,7 @@ use Rattle.symbologies.specs.Symbologies.{symbologies, symbologyOf}
 use Rattle.symbologies.proofs.Checks.{sound43, sound-right}
 use Rattle.symbologies.proofs.Proper.{proper}
 use Rattle.symbologies.proofs.Undo.{Reads}
-use Rattle.symbologies.proofs.Within.{row-few, check-is, row-fits}
+use Rattle.symbologies.proofs.Within.{check-is, row-fits}
 
 -- ---- by arithmetic, from the law: whether the modulus divides the product of the differences
 

@@ -10,13 +10,13 @@
 use mathlib.Core.Path.{_≡_, refl, sym, _∙_}
 use mathlib.Core.Logic.{_↔_, _⊎_, inl, inr, _≢_}
 use mathlib.Core.Bool.{Bool, true, false, _&&_}
-use mathlib.Core.List.{List, [], _∷_}
+use mathlib.Core.List.{List, []}
 use Prim.Native.Nat.{ℕ, zero, suc, _+_, _-_, _<_, _≤_}
 use native.Mathlib.Omega.{arith}
 use native.Mathlib.Decide.{ℕ-discrete, decLt}
-use lib.Dec.{eqb, ltb, leb, lit<, lit≤}
+use lib.Dec.{eqb, ltb, leb, lit≤}
 use lib.ListN.{length, getD, List·getD-eq-default}
-use borrow.Author.Tests.{ltb-true, leb-true, eqb-true, eq-eqb, ne-eqb}
+use borrow.Author.Tests.{ltb-true, leb-true, eqb-true}
 use Rattle.laws.specs.Search.{pick}
 use Rattle.laws.specs.Spelling.{Place, Coder}
 use Rattle.laws.specs.Rules.{Rule}
@@ -25,14 +25,13 @@ use Rattle.laws.proofs.Spelling.{Valid}
 use Rattle.laws.proofs.Fitting.{Keeps, free-inserted}
 use Rattle.laws.proofs.Rules.{Sound}
 use Rattle.words.specs.Order.{gives}
-use Rattle.tables.specs.Alphabet.{Alphabet, size}
 use Rattle.tables.specs.Code39.{chars39, alphabet39}
 use Rattle.tables.specs.Codabar.{table41, alphabetCodabar}
 use Rattle.tables.specs.TwoOfFive.{table44, alphabetDigits}
 use Rattle.symbologies.specs.declared.limits.Limits.{Limits}
 use Rattle.symbologies.specs.Sizes.{places}
-use Rattle.symbologies.specs.Limits.{_to_, none, takes, unknown, offered, added}
-use Rattle.symbologies.specs.Coders.{anywhere, plain, rawCoder, fullCoder, full}
+use Rattle.symbologies.specs.Limits.{_to_, takes, unknown, offered, added}
+use Rattle.symbologies.specs.Coders.{anywhere, rawCoder, fullCoder, full}
 use Rattle.symbologies.specs.Checks.{by43, right10, noCheck}
 use Rattle.symbologies.specs.Parts.{Part, Shows, each}
 use Rattle.symbologies.specs.Symbologies.{Symbology, code39, codabar, digits, symbologies, symbologyOf}

@@ -10,33 +10,31 @@
 --
 -- Assumes nothing.
 use mathlib.Core.Path.{_≡_, refl, sym, ap, _∙_}
-use mathlib.Core.Logic.{_↔_, _≢_, _⊎_, inl, inr}
+use mathlib.Core.Logic.{_≢_, _⊎_, inl, inr}
 use mathlib.Core.Bool.{Bool, true, false, _&&_, not}
 use mathlib.Core.List.{List, [], _∷_, _++_}
-use Prim.Native.Nat.{ℕ, zero, suc, _+_, _-_, _<_, _≤_}
+use Prim.Native.Nat.{ℕ, _+_, _-_, _<_, _≤_}
 use native.Mathlib.Omega.{arith}
-use native.Mathlib.Decide.{ℕ-discrete, decLt}
+use native.Mathlib.Decide.{ℕ-discrete}
 use lib.Dec.{eqb, ltb, leb}
-use lib.ListN.{length, getD, take, drop}
+use lib.ListN.{length, getD, take}
 use lib.Seq.{take-length, drop-length}
-use borrow.Author.Tests.{eq-eqb, ne-eqb, ltb-true, ltb-false, leb-true, le-leb, le-ltb, lt-ltb, eqb-true, not-true, not-false}
+use borrow.Author.Tests.{eq-eqb, ne-eqb, ltb-false, leb-true, le-leb, le-ltb, not-true, not-false}
 use Rattle.laws.specs.Search.{pick}
 use Rattle.laws.specs.Units.{Reading, found, stopped}
-use Rattle.laws.specs.Spelling.{stands, Coder, took, spell, unspell}
+use Rattle.laws.specs.Spelling.{stands, Coder, took, spell}
 use Rattle.laws.specs.Rules.{placeOf, checkedOf, passes}
-use Rattle.laws.proofs.Finite.{both-left, both-right, both-true}
+use Rattle.laws.proofs.Finite.{both-left, both-right}
 use Rattle.laws.proofs.Spelling.{spell-unspell, unspell-spell, found-nil, spell-long, spell-same}
 use Rattle.laws.proofs.Rules.{long-without, checked-long, checked-others, passing-checked}
-use Rattle.laws.proofs.Strips.{push-some, push-none}
-use Rattle.words.specs.declared.Answer.{Answer}
-use Rattle.words.specs.Order.{Check, gives, turned, outcome}
-use Rattle.words.proofs.Order.{None, none-on, none-append, none-split, given}
+use Rattle.words.specs.Order.{Check, gives, turned}
+use Rattle.words.proofs.Order.{None, none-on, given}
 use Rattle.symbologies.specs.declared.limits.Limits.{Limits}
 use Rattle.symbologies.specs.Limits.{offered, holds, odd, added, drawable}
 use Rattle.symbologies.specs.Symbologies.{Symbology, symbologyOf}
-use Rattle.symbologies.specs.Rows.{stops, stopAt, finds, wrong, spelled, rowDrawn, nonzero, unclean, rowChecks, rowOfField, rowOf, charsRead, unspelled, dataRead, countChecks, dataChecks, dataOfCount, dataOf}
+use Rattle.symbologies.specs.Rows.{stops, finds, wrong, spelled, rowDrawn, unclean, rowChecks, rowOfField, rowOf, charsRead, unspelled, dataRead, countChecks, dataChecks, dataOfCount, dataOf}
 use Rattle.symbologies.proofs.Coders.{Single}
-use Rattle.symbologies.proofs.Asked.{Counts, EndsAlone, Loose, Checked, Proper}
+use Rattle.symbologies.proofs.Asked.{Counts, EndsAlone, Loose, Proper}
 
 pub held : (l : Limits) (m n : ℕ) → holds l m n ≡ true → (getD (l .least) m 0 ≤ n) × (n ≤ getD (l .most) m 0)
 held l m n e = (

@@ -8,12 +8,12 @@
 --   not-known, not-offered, not-held, not-even, all-passed    1, 2, 9 of one that is read
 --
 -- Assumes nothing.
-use mathlib.Core.Path.{_≡_, refl, sym, ap, _∙_}
+use mathlib.Core.Path.{_≡_, refl}
 use mathlib.Core.Bool.{Bool, true, false, _&&_, not}
 use mathlib.Core.List.{List, [], _∷_}
 use Prim.Native.Nat.{ℕ, _+_, _-_, _<_, _≤_}
 use native.Mathlib.Omega.{arith}
-use lib.Dec.{ltb, leb}
+use lib.Dec.{leb}
 use lib.ListN.{length, take, drop, length-drop}
 use lib.Seq.{length-take-le}
 use borrow.Author.Tests.{not-true, not-false, lt-ltb, le-ltb, ltb-false, le-leb, lt-leb, leb-true}
@@ -26,9 +26,9 @@ use Rattle.words.proofs.Order.{None}
 use Rattle.symbologies.specs.declared.limits.Limits.{Limits}
 use Rattle.symbologies.specs.declared.judging.Verdict.the-variants.{Given, Turned}
 use Rattle.symbologies.specs.Sizes.{places}
-use Rattle.symbologies.specs.Limits.{offered, holds, odd, added, drawable}
+use Rattle.symbologies.specs.Limits.{offered, holds, odd, added}
 use Rattle.symbologies.specs.Symbologies.{symbologyOf}
-use Rattle.symbologies.specs.Rows.{nonzero, unclean, fieldChecks, drawnChecks, countChecks}
+use Rattle.symbologies.specs.Rows.{nonzero, unclean, fieldChecks, drawnChecks}
 use Rattle.symbologies.specs.Told.{judgedField, judgedDrawn, judgedCount}
 use Rattle.symbologies.proofs.Asked.{Counts}
 use Rattle.symbologies.proofs.Undo.{held}

@@ -5,18 +5,15 @@
 --   row-few       a row that reads has 1 to as many characters as there are places; enough, and its check has its place
 --
 -- Assumes nothing.
-use mathlib.Core.Path.{_≡_, sym}
+use mathlib.Core.Path.{_≡_}
 use mathlib.Core.Logic.{_≢_}
 use mathlib.Core.Bool.{true}
 use mathlib.Core.List.{List}
-use Prim.Native.Nat.{ℕ, _+_, _-_, _<_, _≤_}
+use Prim.Native.Nat.{ℕ, _-_, _<_, _≤_}
 use native.Mathlib.Omega.{arith}
 use native.Mathlib.Decide.{ℕ-discrete}
-use lib.Dec.{eqb}
 use lib.ListN.{length, getD}
 use borrow.Author.Tests.{eq-eqb, ne-eqb}
-use Rattle.laws.specs.Search.{pick}
-use Rattle.laws.specs.Units.{found}
 use Rattle.laws.specs.Weigh.{dot}
 use Rattle.laws.specs.Spelling.{fitting}
 use Rattle.laws.specs.Rules.{checkOf, checkedOf, passes}

@@ -7,7 +7,7 @@
 --   right10     modulus 10, the rightmost beside the check weighs 3, then 1, 3 and so on (in 4 to 6 by ticket 1 of document 02, and no
 --               longer by source 001, 4.6, which counts from the left)
 --   noCheck     no rule: modes 1 and 2 are not offered
-use mathlib.Core.List.{List, reverse}
+use mathlib.Core.List.{reverse}
 use Prim.Native.Nat.{ℕ, _-_, _%_}
 use Rattle.laws.specs.Weigh.{turns}
 use Rattle.laws.specs.Rules.{Rule}

@@ -25,7 +25,7 @@ use Rattle.tables.specs.Bits.{bit, number}
 use Rattle.tables.specs.Code39.{rows39, star39}
 use Rattle.tables.specs.Codabar.{innerRows, letterRows}
 use Rattle.tables.specs.TwoOfFive.{industrialRows, industrialStart, industrialStop, interleavedRows, interleavedStart, interleavedStop, matrixRows, matrixEnds}
-use Rattle.tables.specs.Ean.{oddRows, leftRows, rightRows, guard, centre, paritiesOf, firstDigit}
+use Rattle.tables.specs.Ean.{rightRows, guard, centre, paritiesOf, firstDigit}
 
 pub record Part : Type 0 where
   pub mark : List Kind

@@ -1,6 +1,5 @@
 -- `elements_of`: a step for each character, and the base.
 -- Assumes nothing.
-use Prim.Native.Nat.{_*_}
 use native.Mathlib.Omega.{arith}
 use borrow.Author.Needs.{needs}
 use Rattle.symbologies.specs.Sizes.{places}

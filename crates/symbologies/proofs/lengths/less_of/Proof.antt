@@ -1,7 +1,6 @@
 -- `less_of`: in Codabar by the value, elsewhere nothing.
 -- Assumes nothing.
 use mathlib.Core.Path.{sym}
-use lib.Dec.{ltb}
 use borrow.Author.Tests.{lt-ltb, le-ltb}
 use Rattle.symbologies.specs.Symbologies.{symbologies, symbologyOf}
 use Rattle.symbologies.proofs.Measuring.{none-less}

@@ -1,6 +1,5 @@
 -- `is_odd`: the limits say whether the count must be even.
 -- Assumes nothing.
-use borrow.Author.Needs.{needs}
 use Rattle.symbologies.proofs.limits.is_odd.Statement.{statement}
 use Rattle.symbologies.proofs.limits.is_odd.Tie as tie
 
