@@ -1,7 +1,7 @@
 -- The coders by the numbers that the code matches on: every number but 1, 2 and 3 draws digits.
 --
 --   others    the coder of every other number
---   as-drawn, as-for, as-shift    what is drawn and found at a place, and what begins a pair, is by the symbology of `drawnAs`, in mode 0
+--   as-for, as-shift    what is found at a place, and what begins a pair, is by the symbology of `drawnAs`, in mode 0
 --   drawn-first, drawn-full, drawn-third, drawn-others    what the four coders draw
 --   alone-first, alone-full, alone-third, alone-others    the byte that draws a character alone
 --   is-first, is-full, is-third, is-others    whether there is one
@@ -28,7 +28,7 @@ use Rattle.tables.specs.Codabar.{table41, alphabetCodabar}
 use Rattle.tables.specs.FullAscii.{drawing, ranges}
 use Rattle.tables.specs.TwoOfFive.{table44, alphabetDigits}
 use Rattle.symbologies.specs.Limits.{unknown}
-use Rattle.symbologies.specs.Coders.{single, placed, plain, codabarCoder, shifts, fullCoder, rawCoder}
+use Rattle.symbologies.specs.Coders.{single, placed, plain, codabarCoder, shifts, fullCoder, rawCoder, full}
 use Rattle.symbologies.specs.Checks.{noCheck}
 use Rattle.symbologies.specs.Parts.{each}
 use Rattle.symbologies.specs.Symbologies.{Symbology, digits, symbologies, symbologyOf}
@@ -38,26 +38,26 @@ use Rattle.coders.proofs.Items.{owns, lost}
 
 -- ---- the coders
 
-first-coder : (s : ℕ) → s ≡ 1 → symbologyOf s .coder 0 ≡ plain alphabet39
+first-coder : (s m : ℕ) → s ≡ 1 → symbologyOf s .coder m ≡ plain alphabet39
 unfolding symbologyOf symbologies
-first-coder s e = rw e
+first-coder s m e = rw e
 
-full-coder : (s : ℕ) → s ≡ 2 → symbologyOf s .coder 0 ≡ fullCoder
+full-coder : (s m : ℕ) → s ≡ 2 → symbologyOf s .coder m ≡ full m
 unfolding symbologyOf symbologies
-full-coder s e = rw e
+full-coder s m e = rw e
 
-third-coder : (s : ℕ) → s ≡ 3 → symbologyOf s .coder 0 ≡ codabarCoder
+third-coder : (s m : ℕ) → s ≡ 3 → symbologyOf s .coder m ≡ codabarCoder
 unfolding symbologyOf symbologies
-third-coder s e = rw e
+third-coder s m e = rw e
 
-pub others : (s : ℕ) → (s ≡ 1 → ⊥) → (s ≡ 2 → ⊥) → (s ≡ 3 → ⊥) → symbologyOf s .coder 0 ≡ plain alphabetDigits
+pub others : (s m : ℕ) → (s ≡ 1 → ⊥) → (s ≡ 2 → ⊥) → (s ≡ 3 → ⊥) → symbologyOf s .coder m ≡ plain alphabetDigits
 unfolding symbologyOf symbologies
-others zero a b c = refl
-others (suc zero) a b c = absurd (a refl)
-others (suc (suc zero)) a b c = absurd (b refl)
-others (suc (suc (suc zero))) a b c = absurd (c refl)
-others (suc (suc (suc (suc n)))) a b c =
-    each-at (λ (y : Symbology). y .coder 0 ≡ plain alphabetDigits) (drop 4 symbologies) (digits unknown noCheck [] each) (refl, (refl, (refl, (refl, (refl, (refl, tt)))))) refl n
+others zero m a b c = refl
+others (suc zero) m a b c = absurd (a refl)
+others (suc (suc zero)) m a b c = absurd (b refl)
+others (suc (suc (suc zero))) m a b c = absurd (c refl)
+others (suc (suc (suc (suc n)))) m a b c =
+    each-at (λ (y : Symbology). y .coder m ≡ plain alphabetDigits) (drop 4 symbologies) (digits unknown noCheck [] each) (refl, (refl, (refl, (refl, (refl, (refl, tt)))))) refl n
 
 -- ---- the modes
 
@@ -83,18 +83,15 @@ two-shift m c true true e = rw e
 two-shift m c true false e = rw e
 two-shift m c false end e = rw e
 
-as-drawn-for : (s m : ℕ) (p : Place) (b : ℕ) → symbologyOf (drawnAs s m (p .last)) .coder 0 .drawn p b ≡ symbologyOf s .coder m .drawn p b
-as-drawn-for s m p b = go (ℕ-discrete s 2)
+as-drawn : (s m : ℕ) (p : Place) (b : ℕ) → symbologyOf (drawnAs s m (p .last)) .coder 0 .drawn p b ≡ symbologyOf s .coder m .drawn p b
+as-drawn s m p b = go (ℕ-discrete s 2)
   where
     go : Dec (s ≡ 2) → symbologyOf (drawnAs s m (p .last)) .coder 0 .drawn p b ≡ symbologyOf s .coder m .drawn p b
     go (yes e) = rw e (sym (two-drawn m p b (eqb m 1) (p .last) refl refl))
     go (no e) = rw (ne-eqb s 2 e, unmoded s m e)
 
-pub as-drawn : (s m t : ℕ) (p : Place) (b : ℕ) → t ≡ drawnAs s m (p .last) → symbologyOf t .coder 0 .drawn p b ≡ symbologyOf s .coder m .drawn p b
-as-drawn s m t p b e = rw e (as-drawn-for s m p b)
-
 pub as-for : (s m t : ℕ) (p : Place) (item : List ℕ) → t ≡ drawnAs s m (p .last) → byteFor (symbologyOf t .coder 0) p item ≡ byteFor (symbologyOf s .coder m) p item
-as-for s m t p item e = for-same (symbologyOf t .coder 0) (symbologyOf s .coder m) p p item (λ b. as-drawn s m t p b e)
+as-for s m t p item e = rw e (for-same (symbologyOf (drawnAs s m (p .last)) .coder 0) (symbologyOf s .coder m) p p item (as-drawn s m p))
 
 as-shift-for : (s m : ℕ) (end : Bool) (c : ℕ) → symbologyOf (drawnAs s m end) .coder 0 .shift end c ≡ symbologyOf s .coder m .shift end c
 as-shift-for s m end c = go (ℕ-discrete s 2)
@@ -108,34 +105,40 @@ as-shift s m t end c e = rw e (as-shift-for s m end c)
 
 -- ---- one character
 
-module _ (t : ℕ) (p : Place) where
-  pub drawn-first : (v b : ℕ) → t ≡ 1 → v ≡ valueOf alphabet39 b → single (ltb v 43) v ≡ symbologyOf t .coder 0 .drawn p b
+module _ (s m : ℕ) (p : Place) where
+  pub drawn-first : (v b : ℕ) → s ≡ 1 → v ≡ valueOf alphabet39 b → single (ltb v 43) v ≡ symbologyOf s .coder m .drawn p b
   unfolding plain alphabet39 chars39
-  drawn-first v b e h = rw (first-coder t e, h)
+  drawn-first v b e h = rw (first-coder s m e, h)
 
-  pub drawn-full : (b : ℕ) → t ≡ 2 → fullCoder .drawn edge b ≡ symbologyOf t .coder 0 .drawn p b
-  unfolding fullCoder
-  drawn-full b e = rw (full-coder t e)
-
-  pub drawn-third : (end : Bool) (v b : ℕ) → t ≡ 3 → end ≡ isEnd p → v ≡ valueOf alphabetCodabar b → single (placed end v) v ≡ symbologyOf t .coder 0 .drawn p b
+  pub drawn-third : (end : Bool) (v b : ℕ) → s ≡ 3 → end ≡ isEnd p → v ≡ valueOf alphabetCodabar b → single (placed end v) v ≡ symbologyOf s .coder m .drawn p b
   unfolding codabarCoder
-  drawn-third end v b e h k = rw (third-coder t e, h, k)
+  drawn-third end v b e h k = rw (third-coder s m e, h, k)
 
-  pub drawn-others : (v b : ℕ) → (t ≡ 1 → ⊥) → (t ≡ 2 → ⊥) → (t ≡ 3 → ⊥) → v ≡ valueOf alphabetDigits b → single (ltb v 10) v ≡ symbologyOf t .coder 0 .drawn p b
+  pub drawn-others : (v b : ℕ) → (s ≡ 1 → ⊥) → (s ≡ 2 → ⊥) → (s ≡ 3 → ⊥) → v ≡ valueOf alphabetDigits b → single (ltb v 10) v ≡ symbologyOf s .coder m .drawn p b
   unfolding plain alphabetDigits table44
-  drawn-others v b x y z h = rw (others t x y z, h)
+  drawn-others v b x y z h = rw (others s m x y z, h)
 
+-- whether a byte is the first makes no difference
+full-at : (t first last : Bool) (b : ℕ) → pick t rawCoder fullCoder .drawn (record { first = false; last = last }) b ≡ pick t rawCoder fullCoder .drawn (record { first = first; last = last }) b
+unfolding rawCoder fullCoder plain
+full-at true first last b = refl
+full-at false first last b = refl
+
+pub drawn-full : (s m : ℕ) (first last : Bool) (b : ℕ) → s ≡ 2 → full m .drawn (record { first = false; last = last }) b ≡ symbologyOf s .coder m .drawn (record { first = first; last = last }) b
+drawn-full s m first last b e = rw (full-coder s m e) (full-at (eqb m 1) first last b)
+
+module _ (t : ℕ) (p : Place) where
   pub alone-first : (v w : ℕ) → t ≡ 1 → w ≡ byteOf alphabet39 v → pick (ltb v 43) w 256 ≡ byteFor (symbologyOf t .coder 0) p (v ∷ [])
-  alone-first v w e h = rw (first-coder t e, h) (sym (alone39 p v))
+  alone-first v w e h = rw (first-coder t 0 e, h) (sym (alone39 p v))
 
   pub alone-full : (v : ℕ) → t ≡ 2 → byteFor fullCoder edge (v ∷ []) ≡ byteFor (symbologyOf t .coder 0) p (v ∷ [])
-  alone-full v e = rw (full-coder t e) (full-places edge p (v ∷ []))
+  alone-full v e = rw (full-coder t 0 e) (full-places edge p (v ∷ []))
 
   pub alone-third : (end ok : Bool) (v w : ℕ) → t ≡ 3 → end ≡ isEnd p → ok ≡ placed end v → w ≡ byteOf alphabetCodabar v → pick ok w 256 ≡ byteFor (symbologyOf t .coder 0) p (v ∷ [])
-  alone-third end ok v w e h k l = rw (third-coder t e, l, k, h) (sym (alone-codabar p v))
+  alone-third end ok v w e h k l = rw (third-coder t 0 e, l, k, h) (sym (alone-codabar p v))
 
   pub alone-others : (v w : ℕ) → (t ≡ 1 → ⊥) → (t ≡ 2 → ⊥) → (t ≡ 3 → ⊥) → w ≡ byteOf alphabetDigits v → pick (ltb v 10) w 256 ≡ byteFor (symbologyOf t .coder 0) p (v ∷ [])
-  alone-others v w x y z h = rw (others t x y z, h) (sym (alone-digits p v))
+  alone-others v w x y z h = rw (others t 0 x y z, h) (sym (alone-digits p v))
 
 -- ---- whether a byte draws it
 
@@ -183,10 +186,10 @@ unfolding fullCoder shifts valueOf alphabet39 chars39 indexIn
 high end v h = rw (ne-eqb 40 v (omega arith), ne-eqb 41 v (omega arith), ne-eqb 42 v (omega arith))
 
 pub shift-low : (t : ℕ) (end : Bool) (v : ℕ) → t ≡ 2 → v < 40 → false ≡ symbologyOf t .coder 0 .shift end v
-shift-low t end v e h = rw (full-coder t e) (sym (low end v h))
+shift-low t end v e h = rw (full-coder t 0 e) (sym (low end v h))
 
 pub shift-from : (t : ℕ) (end : Bool) (v : ℕ) → t ≡ 2 → 40 ≤ v → ltb v 43 ≡ symbologyOf t .coder 0 .shift end v
-shift-from t end v e h = rw (full-coder t e) (go (decLt v 43))
+shift-from t end v e h = rw (full-coder t 0 e) (go (decLt v 43))
   where
     go : Dec (v < 43) → ltb v 43 ≡ fullCoder .shift end v
     go (yes l) = lt-ltb v 43 l ∙ sym (mid end v h l)
@@ -197,9 +200,9 @@ beside : (P : Coder → Type 0) → P (plain alphabet39) → P codabarCoder → 
 beside P a b c s n = go (ℕ-discrete s 1) (ℕ-discrete s 3)
   where
     go : Dec (s ≡ 1) → Dec (s ≡ 3) → P (symbologyOf s .coder 0)
-    go (yes e) f = rw (first-coder s e) a
-    go (no e) (yes f) = rw (third-coder s f) b
-    go (no e) (no f) = rw (others s e n f) c
+    go (yes e) f = rw (first-coder s 0 e) a
+    go (no e) (yes f) = rw (third-coder s 0 f) b
+    go (no e) (no f) = rw (others s 0 e n f) c
 
 pub unshifted : (t : ℕ) (end : Bool) (v : ℕ) → (t ≡ 2 → ⊥) → false ≡ symbologyOf t .coder 0 .shift end v
 unfolding plain codabarCoder
@@ -209,8 +212,8 @@ pub unpaired : (t : ℕ) (p : Place) (c d : ℕ) → (t ≡ 2 → ⊥) → 256 �
 unpaired t p c d = beside (λ (k : Coder). 256 ≡ byteFor k p (c ∷ d ∷ [])) (sym (pair39 p c d [])) (sym (pair-codabar p c d [])) (sym (pair-digits p c d [])) t
 
 pub pair-full : (t : ℕ) (p : Place) (c d x : ℕ) → t ≡ 2 → c ≡ x → byteFor fullCoder edge (x ∷ d ∷ []) ≡ byteFor (symbologyOf t .coder 0) p (c ∷ d ∷ [])
-pair-full t p c d x e h = rw (full-coder t e, h) (full-places edge p (x ∷ d ∷ []))
+pair-full t p c d x e h = rw (full-coder t 0 e, h) (full-places edge p (x ∷ d ∷ []))
 
 pub pair-none : (t : ℕ) (p : Place) (c d : ℕ) → t ≡ 2 → (c ≡ 40 → ⊥) → (c ≡ 41 → ⊥) → (c ≡ 42 → ⊥) → 256 ≡ byteFor (symbologyOf t .coder 0) p (c ∷ d ∷ [])
 unfolding back
-pair-none t p c d e x y z = rw (full-coder t e) (sym (full-none p c (d ∷ []) (rw (ne-eqb c 40 x, ne-eqb c 41 y, ne-eqb c 42 z))))
+pair-none t p c d e x y z = rw (full-coder t 0 e) (sym (full-none p c (d ∷ []) (rw (ne-eqb c 40 x, ne-eqb c 41 y, ne-eqb c 42 z))))

@@ -3,11 +3,12 @@
 mod full_ascii;
 
 ghost use mathlib.Core.Path.{_≡_};
+ghost use mathlib.Core.Bool.{false};
 ghost use mathlib.Core.List.{[], _∷_};
 ghost use lib.Dec.{ltb};
 ghost use Rattle.laws.specs.Search.{pick};
 ghost use Rattle.laws.specs.Spelling.{isEnd, byteFor};
-ghost use Rattle.symbologies.specs.Coders.{single, placed};
+ghost use Rattle.symbologies.specs.Coders.{single, placed, full};
 ghost use Rattle.symbologies.specs.Symbologies.{symbologyOf};
 ghost use Rattle.coders.specs.Pieces.{pieceList, isNil, drawnAs};
 
@@ -85,13 +86,27 @@ fn codabar(end: bool, value: u8) -> Piece
     }
 }
 
+// What a byte of full ASCII draws: in mode 1 the last byte is a raw character of Code 39. Whether it is the first makes no difference.
+fn full(mode: u8, last: bool, byte: u8) -> Piece
+    ensures { λ r. ⌜ pieceList r ≡ full mode .drawn (record { first = false; last = last }) byte ⌝ }
+{
+    if mode != 1 {
+        return full_ascii::drawn(byte);
+    }
+    if last {
+        plain(tables::code39::value(byte), 43)
+    } else {
+        full_ascii::drawn(byte)
+    }
+}
+
 // What a byte draws.
 pub fn drawn(symbology: u8, mode: u8, first: bool, last: bool, byte: u8) -> Piece
     ensures { λ r. ⌜ pieceList r ≡ symbologyOf symbology .coder mode .drawn (record { first = first; last = last }) byte ⌝ }
 {
-    match drawn_as(symbology, mode, last) {
+    match symbology {
         1 => plain(tables::code39::value(byte), 43),
-        2 => full_ascii::drawn(byte),
+        2 => full(mode, last, byte),
         3 => codabar(is_end(first, last), tables::codabar::value(byte)),
         _ => plain(tables::two_of_five::value(byte), 10),
     }
