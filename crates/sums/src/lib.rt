@@ -86,7 +86,7 @@ pub fn check(sum: Sum) -> u8
     }
     let rest = sum.total % modulus;
     if sum.up {
-        ((modulus - rest) % modulus) as u8
+        if rest == 0 { 0 } else { (modulus - rest) as u8 }
     } else {
         rest as u8
     }
