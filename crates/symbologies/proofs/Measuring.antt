@@ -1,23 +1,26 @@
 -- Document 01's formulas as the code works them out, from a symbology's limits.
 --
---   step-small     a step times a few is small
+--   step-small, each-small    a few steps are small, and so are the most modules of a few characters
 --   small, elements-by    the limits are small; the elements of few characters
 --   less-most      no character has less than nothing; none-less, outside Codabar all have the most
---   Summed         the modules so far, and those of the characters that are left; summed-start, -more, -end
+--   apart          the modules of characters and what they have less, together, are the most for each
+--   nothing-less   where none has less, together they have nothing less
+--   less-under, modules-by    few characters have no more less than there is; their modules
+--   Summed         what the characters so far have less, and what those that are left have; summed-start, -more, -end
 --   count-is, count-none, count-small    the count for a length
 --   past-places, past-row, past-longest    what has no such place, and a strip that is too long
 --
 -- Assumes nothing.
-use mathlib.Core.Path.{_≡_, refl, sym}
+use mathlib.Core.Path.{_≡_, refl, sym, _∙_}
 use mathlib.Core.Bool.{Bool, true, false}
 use mathlib.Core.List.{List, [], _∷_, map}
 use Prim.Native.Nat.{ℕ, zero, suc, _+_, _*_, _-_, _/_, _<_, _≤_}
 use native.Mathlib.Omega.{arith}
-use native.Mathlib.Nat.{mul-le-mul, div-le-self, zero-div}
+use native.Mathlib.Nat.{mul-le-mul, div-le-self, zero-div, suc-mul, zero-add, add-zero}
 use native.Mathlib.Numerals.{add-one}
 use lib.Dec.{eqb, ltb, lit≤}
 use lib.ListN.{length, getD, take, drop}
-use lib.Seq.{drop-cons}
+use lib.Seq.{drop-cons, length-take-le}
 use borrow.Author.Tests.{le-leb, lt-leb}
 use Rattle.laws.specs.Search.{pick}
 use Rattle.laws.specs.Elements.{sum}
@@ -39,6 +42,9 @@ module _ (s : ℕ) (l : Limits) (e : l ≡ symbologyOf s .limits) where
 
   pub step-small : (n k : ℕ) → n ≤ k → l .step * n ≤ 20 * k
   step-small n k h = mul-le-mul (small .step) h
+
+  pub each-small : (n k : ℕ) → n ≤ k → l .each * n ≤ 20 * k
+  each-small n k h = mul-le-mul (small .each) h
 
   -- ---- elements
 
@@ -74,9 +80,6 @@ past-longest s long h = rw (lt-leb long longest h)
 
 -- ---- modules
 
-abbrev each-less : ℕ → Limits → ℕ → ℕ
-each-less s l c = l .each - symbologyOf s .less c
-
 abbrev pub Less : Symbology → Type 0
 Less y = (c : ℕ) → y .less c ≤ y .limits .each
 
@@ -108,28 +111,45 @@ none-less (suc (suc (suc zero))) n c = absurd (n refl)
 none-less (suc (suc (suc (suc s)))) n c =
     each-at (λ (y : Symbology). y .less c ≡ 0) (drop 4 symbologies) (digits unknown noCheck [] each) (refl, (refl, (refl, (refl, (refl, (refl, tt)))))) refl s
 
-abbrev pub Summed : ℕ → Limits → List ℕ → ℕ → ℕ → ℕ → Type 0
-Summed s l codes n total i = (total ≤ 40 + 20 * i) × (total + sum (map (each-less s l) (take (n - i) (drop i codes))) ≡ l .rest + sum (map (each-less s l) (take n codes)))
+pub apart : (each : ℕ) (less : ℕ → ℕ) → ((c : ℕ) → less c ≤ each) → (cs : List ℕ) → sum (map (λ c. each - less c) cs) + sum (map less cs) ≡ each * length cs
+apart each less h [] = omega arith
+apart each less h (c ∷ cs) = omega (arith, h c, apart each less h cs, suc-mul (length cs) each)
 
-module _ (s : ℕ) (l : Limits) (e : l ≡ symbologyOf s .limits) (codes : List ℕ) (n : ℕ) where
-  pub summed-start : Summed s l codes n (l .rest) 0
-  summed-start = let q : n - 0 ≡ n = omega arith in (omega (arith, small s l e .rest), rw q)
+pub nothing-less : (less : ℕ → ℕ) → ((c : ℕ) → less c ≡ 0) → (cs : List ℕ) → sum (map less cs) ≡ 0
+nothing-less less z [] = refl
+nothing-less less z (c ∷ cs) = omega (arith, z c, nothing-less less z cs)
+
+abbrev all-less : ℕ → List ℕ → ℕ
+all-less s cs = sum (map (symbologyOf s .less) cs)
+
+module _ (s : ℕ) (l : Limits) (e : l ≡ symbologyOf s .limits) (codes : List ℕ) (n : ℕ) (k : n ≤ length codes) where
+  all-apart : sum (map (λ c. l .each - symbologyOf s .less c) (take n codes)) + all-less s (take n codes) ≡ l .each * n
+  all-apart = rw e (apart (symbologyOf s .limits .each) (symbologyOf s .less) (less-most s) (take n codes) ∙ rw (length-take-le n codes k))
+
+  pub less-under : all-less s (take n codes) ≤ l .each * n
+  less-under = omega (arith, all-apart)
+
+  pub modules-by : (less r : ℕ) → n ≤ places → less ≡ all-less s (take n codes) → r ≡ l .each * n + l .rest - less - 1 → r ≡ modulesWithin s (record { codes = codes; len = n })
+  unfolding modulesWithin modulesOf
+  modules-by less r h q z = rw (le-leb n places h, ← e) (omega (arith, all-apart))
+
+abbrev pub Summed : ℕ → List ℕ → ℕ → ℕ → ℕ → Type 0
+Summed s codes n less i = (less ≤ 20 * i) × (less + all-less s (take (n - i) (drop i codes)) ≡ all-less s (take n codes))
+
+module _ (s : ℕ) (codes : List ℕ) (n : ℕ) where
+  pub summed-start : Summed s codes n 0 0
+  summed-start = let q : n - 0 ≡ n = omega arith in (omega arith, rw q (zero-add _))
 
   one-more : (i : ℕ) → i < n → n ≤ length codes → take (n - i) (drop i codes) ≡ getD codes i 0 ∷ take (n - (i + 1)) (drop (i + 1) codes)
   one-more i h k = let q : n - i ≡ suc (n - (i + 1)) = omega arith in rw (q, drop-cons codes i 0 (omega arith), ← add-one i)
 
-  pub summed-more : (total i less : ℕ) → i < n → n ≤ length codes → less ≡ symbologyOf s .less (getD codes i 0) → Summed s l codes n total i → Summed s l codes n (total + (l .each - less)) (i + 1)
-  summed-more total i less h k q z =
-      let w : total + (each-less s l (getD codes i 0) + sum (map (each-less s l) (take (n - (i + 1)) (drop (i + 1) codes)))) ≡ l .rest + sum (map (each-less s l) (take n codes))
-      = rw (one-more i h k) at (z .1) in
-      (omega (arith, small s l e .each), omega arith)
+  pub summed-more : (less i one : ℕ) → i < n → n ≤ length codes → one ≡ symbologyOf s .less (getD codes i 0) → Summed s codes n less i → Summed s codes n (less + one) (i + 1)
+  summed-more less i one h k q z =
+      let w : less + (symbologyOf s .less (getD codes i 0) + all-less s (take (n - (i + 1)) (drop (i + 1) codes))) ≡ all-less s (take n codes) = rw (one-more i h k) at (z .1) in
+      (omega (arith, less-most s (getD codes i 0), lengths-small s .each), omega arith)
 
-  pub summed-end : (total i r : ℕ) → n ≤ i → n ≤ places → r ≡ total - 1 → Summed s l codes n total i → r ≡ modulesWithin s (record { codes = codes; len = n })
-  unfolding modulesWithin modulesOf
-  summed-end total i r h k q z =
-      let f : n - i ≡ 0 = omega arith in
-      let w : total + 0 ≡ l .rest + sum (map (each-less s l) (take n codes)) = rw f at (z .1) in
-      rw (le-leb n places k, ← e) (omega arith)
+  pub summed-end : (less i : ℕ) → n ≤ i → Summed s codes n less i → less ≡ all-less s (take n codes)
+  summed-end less i h z = let f : n - i ≡ 0 = omega arith in sym (add-zero less) ∙ (rw f at (z .1))
 
 pub past-row : (s : ℕ) (row : Row) → places < row .len → 0 ≡ modulesWithin s row
 unfolding modulesWithin

@@ -13,7 +13,6 @@ use mathlib.Core.Bool.{true, false}
 use mathlib.Core.List.{List, [], _∷_, map}
 use Prim.Native.Nat.{ℕ, suc, _+_, _*_, _-_, _/_, _<_, _≤_}
 use native.Mathlib.Omega.{arith}
-use native.Mathlib.Nat.{suc-mul}
 use lib.Dec.{ltb}
 use lib.ListN.{length, getD}
 use borrow.Author.Tests.{ltb-true, le-ltb}
@@ -36,6 +35,7 @@ use Rattle.symbologies.specs.Parts.{Part, parted, partUnits, starred, le
 use Rattle.symbologies.specs.Symbologies.{symbologies, symbologyOf}
 use Rattle.symbologies.specs.Rows.{rowOf}
 use Rattle.symbologies.specs.Strips.{elementsOf, modulesOf, unitsOf, stripOf, counted, allAllowed, ready}
+use Rattle.symbologies.proofs.Measuring.{less-most, apart, nothing-less}
 use Rattle.symbologies.proofs.Laying.{add-widths, add-tally, Steady, tally, steady-sum}
 use Rattle.symbologies.proofs.Counted.{counted-codabar, counted-even, counted-ean13, counted-ean8, counted-upc, by-number}
 use Rattle.symbologies.proofs.Ready.{drawn-ready, ready-counted, ready-allowed, letter-high, letter-low, ready-fits, steady-39, steady-industrial, steady-interleaved, steady-matrix, steady-left, steady-odd, all-good}
@@ -109,14 +109,10 @@ unit-widths s n e = by-number Wide wide s n e n e
 
 -- ---- modules where no character has fewer than another
 
-level : (each : ℕ) (less : ℕ → ℕ) → ((c : ℕ) → less c ≡ 0) → (r : List ℕ) → sum (map (λ c. each - less c) r) ≡ each * length r
-level each less z [] = omega arith
-level each less z (c ∷ cs) = omega (arith, z c, level each less z cs, suc-mul (length cs) each)
-
 pub level-modules : (s : ℕ) → ((c : ℕ) → symbologyOf s .less c ≡ 0) → (r : List ℕ)
     → modulesOf s r ≡ symbologyOf s .limits .each * length r + symbologyOf s .limits .rest - 1
 unfolding modulesOf
-level-modules s z r = rw (level (symbologyOf s .limits .each) (symbologyOf s .less) z r)
+level-modules s z r = omega (arith, apart (symbologyOf s .limits .each) (symbologyOf s .less) (less-most s) r, nothing-less (symbologyOf s .less) z r)
 
 -- ---- Codabar, character by character
 

@@ -5,6 +5,11 @@ use super::row::Row;
 use super::sizes::LONGEST;
 use super::sizes::PLACES;
 ghost use mathlib.Core.Path.{_≡_};
+ghost use mathlib.Core.List.{map};
+ghost use Prim.Native.Nat.{_≤_};
+ghost use lib.ListN.{length, take};
+ghost use Rattle.laws.specs.Elements.{sum};
+ghost use Rattle.symbologies.specs.Sizes.{places};
 ghost use Rattle.symbologies.specs.Symbologies.{symbologyOf};
 ghost use Rattle.symbologies.specs.Strips.{countFor};
 ghost use Rattle.symbologies.specs.Told.{elementsWithin, modulesWithin};
@@ -32,6 +37,23 @@ fn less_of(symbology: u8, value: u8) -> usize
     }
 }
 
+// What the first n characters have less, together. Outside Codabar there is nothing to look at.
+fn less_in(symbology: u8, codes: &[u8; PLACES], n: usize) -> usize
+    requires { ⌜ (n ≤ places) × (length (now codes) ≡ places) ⌝ }
+    ensures { λ r. ⌜ r ≡ sum (map (symbologyOf symbology .less) (take n (now (codes .entry)))) ⌝ }
+{
+    if symbology != 3 {
+        return 0;
+    }
+    let mut less = 0;
+    let mut i = 0;
+    while i < n {
+        less += less_of(symbology, codes[i]);
+        i += 1;
+    }
+    less
+}
+
 // The modules of a row; 0 where its number passes its places.
 pub fn modules_of(symbology: u8, row: Row) -> usize
     ensures { λ r. ⌜ r ≡ modulesWithin symbology row ⌝ }
@@ -42,12 +64,8 @@ pub fn modules_of(symbology: u8, row: Row) -> usize
         return 0;
     }
     let limits = limits_of(symbology);
-    let mut total = limits.rest;
-    let mut i = 0;
-    while i < n {
-        total += limits.each - less_of(symbology, codes[i]);
-        i += 1;
-    }
+    let less = less_in(symbology, &codes, n);
+    let total = limits.each * n + limits.rest - less;
     if total == 0 { 0 } else { total - 1 }
 }
 

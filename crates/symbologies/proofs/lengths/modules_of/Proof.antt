@@ -1,74 +1,56 @@
--- `modules_of`: the modules so far and those of the characters that are left are the modules of all.
+-- `modules_of`: the most modules for each character, and the base, less what the characters have less.
 -- Assumes nothing.
 use mathlib.Core.Path.{_≡_}
-use Prim.Native.Nat.{_-_, _≤_}
 use native.Mathlib.Omega.{arith}
 use lib.ListN.{length}
 use borrow.Author.Needs.{needs}
 use Rattle.symbologies.specs.Sizes.{places}
-use Rattle.symbologies.proofs.Measuring.{small, less-most, Summed, summed-start, summed-more, summed-end, past-row}
+use Rattle.symbologies.proofs.Measuring.{small, each-small, less-under, modules-by, past-row}
 use Rattle.symbologies.proofs.lengths.modules_of.Statement.{statement}
 use Rattle.symbologies.proofs.lengths.modules_of.Tie as tie
-use Rattle.symbologies.proofs.lengths.modules_of.Reads as reads
-use Rattle.symbologies.proofs.lengths.modules_of.Lts as lts
 
-abbrev Inv-loop : tie.InvT-loop
-Inv-loop symbology codes n limits total₀ i₀ total i = (i ≤ n) × Summed symbology limits codes n total i
-
-abbrev μ-loop : tie.MeasureT-loop
-μ-loop symbology codes n limits total₀ i₀ total i = n - i
-
-returns : tie.Need-returns Inv-loop μ-loop
+returns : tie.Need-returns
 returns c = past-row _ _ (c .if1 .taken)
 
-loop-holds : tie.Need-loop-holds Inv-loop μ-loop
-loop-holds c = (omega arith, summed-start _ _ (c .limits-of .ensures) (c .before .before .before .args .row .codes) (c .before .before .before .args .row .len))
+mul-total : tie.Need-mul-total
+mul-total c =
+    let l = c .before .before .before in
+    omega (arith, each-small _ _ (l .limits-of .ensures) (l .before .before .before .args .row .len) places (l .before .if1 .left))
 
-array-read-less-of : tie.Need-array-read-less-of Inv-loop μ-loop
-array-read-less-of c = omega arith
+add-total : tie.Need-add-total
+add-total c =
+    let l = c .before .before .before .before in
+    omega (arith, small _ _ (l .limits-of .ensures) .rest, each-small _ _ (l .limits-of .ensures) (l .before .before .before .args .row .len) places (l .before .if1 .left))
 
-sub-total : tie.Need-sub-total Inv-loop μ-loop
+sub-total : tie.Need-sub-total
 sub-total c =
     let l = c .before .before .before .before in
-    rw (c .before .less-of .ensures, l .limits-of .ensures) (less-most _ _)
+    let a = l .before .before .before .args .row in
+    let long : length (a .codes) ≡ places = search needs in
+    omega (arith, c .before .before .less-in .ensures, less-under _ _ (l .limits-of .ensures) (a .codes) (a .len) (omega (arith, l .before .if1 .left)))
 
-add-total : tie.Need-add-total Inv-loop μ-loop
-add-total c =
-    let l = c .before .before .before in
-    omega (arith, l .loop .inv .1 .0, l .loop .inv .0, l .before .before .if1 .left, small _ _ (l .before .limits-of .ensures) .each)
-
-loop-again : tie.Need-loop-again Inv-loop μ-loop
-loop-again c =
-    let l = c .before .before .before in
-    let long : length (l .before .before .before .before .args .row .codes) ≡ places = search needs in
-    (omega arith, summed-more _ _ (l .before .limits-of .ensures) _ _ _ _ _ (c .before .before .loop-test .taken) (omega arith) (c .before .less-of .ensures) (l .loop .inv .1))
-
-returns-2 : tie.Need-returns-2 Inv-loop μ-loop
+returns-2 : tie.Need-returns-2
 returns-2 c =
-    let l = c .before .before in
-    summed-end _ _ (l .before .limits-of .ensures) _ _ _ _ _ (c .before .loop-test .left) (l .before .before .if1 .left) (omega arith) (l .loop .inv .1)
+    let l = c .before .before .before .before .before in
+    let long : length (l .before .before .before .args .row .codes) ≡ places = search needs in
+    modules-by _ _ (l .limits-of .ensures) _ _ (omega (arith, l .before .if1 .left)) _ _ (l .before .if1 .left) (c .before .before .before .less-in .ensures) (omega arith)
 
-returns-3 : tie.Need-returns-3 Inv-loop μ-loop
+returns-3 : tie.Need-returns-3
 returns-3 c =
-    let l = c .before .before in
-    summed-end _ _ (l .before .limits-of .ensures) _ _ _ _ _ (c .before .loop-test .left) (l .before .before .if1 .left) (omega arith) (l .loop .inv .1)
+    let l = c .before .before .before .before .before in
+    let long : length (l .before .before .before .args .row .codes) ≡ places = search needs in
+    modules-by _ _ (l .limits-of .ensures) _ _ (omega (arith, l .before .if1 .left)) _ _ (l .before .if1 .left) (c .before .before .before .less-in .ensures) (omega arith)
 
 pub modules-of-spec : {M : Type 1} → statement M
 modules-of-spec =
     tie.close
     (tie.spec
-    Inv-loop
-    μ-loop
     returns
     (λ c κs. search needs)
-    loop-holds
-    array-read-less-of
     (λ c κs. search needs)
-    sub-total
+    mul-total
     add-total
-    (λ c. search needs)
-    (λ c. omega arith)
-    loop-again
+    sub-total
     (λ c. search needs)
     returns-2
     returns-3)
