@@ -13,7 +13,7 @@ use borrow.Fn.Kinds.{Dens, resT, endedOf}
 use contract.Lifetimes.{Lfts}
 use denote.Triple.Clauses.{AtExit}
 use Rattle.jobs.specs.declared.run.Run.{Run}
-use Rattle.jobs.specs.Text.{front}
+use Rattle.laws.specs.Writing.{front}
 use Rattle.jobs.specs.Run.{Held, heldRun, runFrom, runOf}
 use Rattle.jobs.proofs.Pieces.{goes-on}
 use Rattle.jobs.proofs.run.run_held.Reads as RunHeld

@@ -1,55 +1,22 @@
--- What is written stands behind what stood there, and nothing else changes.
+-- Numbers and widths, written where they belong (laws, `Put`).
 --
---   placed      a text in its place is `Put`
---   one         a byte; `then`, two texts one behind the other; `same-text`, a text in other words
---   at-front    a text at index 0
 --   number-put  a number and the byte behind it
 --   digits-start, digits-more, digits-end    the loop over a number's digits, from the last
 --   widths-start, widths-more, widths-end    the loop over widths
 --
 -- Assumes nothing.
-use mathlib.Core.Path.{_≡_, refl, sym, ap, _∙_}
+use mathlib.Core.Path.{_≡_, sym, ap, _∙_}
 use mathlib.Core.List.{List, [], _∷_, _++_, append-assoc}
 use Prim.Native.Nat.{ℕ, zero, suc, _+_, _-_, _/_, _%_, _<_, _≤_}
 use native.Mathlib.Omega.{arith}
-use native.Mathlib.Nat.{add-zero, zero-add, add-assoc}
+use native.Mathlib.Nat.{add-zero}
 use native.Mathlib.Numerals.{add-one}
-use lib.ListN.{length, getD, take, drop, set, length-append, length-drop, length-map, take-append-drop, drop-of-length-le}
-use lib.Seq.{take-at, drop-at, drop-append-add, drop-drop, drop-cons, set-split, take-set-le, take-suc-set, drop-set-lt, length-take-le, getD-take}
-use Rattle.jobs.specs.Text.{decimal, widths, putIn, Put, front}
+use lib.ListN.{length, getD, take, drop, set, length-map, take-append-drop, drop-of-length-le}
+use lib.Seq.{drop-at, drop-cons, set-split, take-set-le, take-suc-set, drop-set-lt, length-take-le, getD-take}
+use Rattle.laws.specs.Writing.{putIn, Put}
+use Rattle.laws.proofs.Writing.{placed, one, then}
+use Rattle.jobs.specs.Text.{decimal, widths}
 use Rattle.jobs.proofs.Digits.{few, fixed, digits-fixed}
-
--- ---- texts
-
-same-long : (out text : List ℕ) (at : ℕ) → at + length text ≤ length out → length (putIn at text out) ≡ length out
-same-long out text at h =
-    rw (length-append, length-append, length-drop, length-take-le at out (omega arith)) (omega arith)
-
-pub placed : (out text q : List ℕ) (at next : ℕ) → at + length text ≤ length out → q ≡ putIn at text out → next ≡ at + length text → Put out at text q next
-placed out text q at next h e n = record { is = e; long = ap length e ∙ same-long out text at h; behind = n; fits = h }
-
-pub one : (out : List ℕ) (at b : ℕ) → at < length out → Put out at (b ∷ []) (set out at b) (at + 1)
-one out at b h = placed out (b ∷ []) (set out at b) at (at + 1) (omega arith) (rw (add-one at) (set-split out at b h)) refl
-
-pub then : {out t p u q : List ℕ} {at n m : ℕ} → Put out at t p n → Put p n u q m → Put out at (t ++ u) q m
-then {out} {t} {p} {u} {q} {at} {n} {m} a b =
-    let g : length (take at out) ≡ at = length-take-le at out (omega (arith, a .fits)) in
-    let w : length (take at out ++ t) ≡ n = length-append (take at out) t ∙ omega (arith, a .behind) in
-    let e : p ≡ take at out ++ t ++ drop (at + length t) out = a .is ∙ sym (append-assoc (take at out) t _) in
-    let x : take n p ≡ take at out ++ t = ap (take n) e ∙ take-at (take at out ++ t) (drop (at + length t) out) n w in
-    let y : drop (n + length u) p ≡ drop (at + length t + length u) out
-    = ap (drop (n + length u)) e ∙ ap (λ (k : ℕ). drop (k + length u) (take at out ++ t ++ drop (at + length t) out)) (sym w)
-    ∙ drop-append-add (take at out ++ t) (drop (at + length t) out) (length u) ∙ drop-drop (length u) (at + length t) out in
-    placed out (t ++ u) q at m (rw length-append (omega (arith, a .behind, a .long, b .fits)))
-    (b .is ∙ rw (x, y, length-append, ← add-assoc, append-assoc (take at out) t, append-assoc t u))
-    (rw length-append (omega (arith, a .behind, b .behind)))
-
--- the same text in other words
-pub same-text : {out t u q : List ℕ} {at n : ℕ} → t ≡ u → Put out at t q n → Put out at u q n
-same-text e a = rw e at a
-
-pub at-front : {out text q : List ℕ} {next : ℕ} → Put out 0 text q next → (next ≡ length text) × (q ≡ front text out)
-at-front {out} {text} {q} {next} p = (p .behind ∙ zero-add (length text), p .is ∙ rw (zero-add (length text)))
 
 -- ---- digits, from the last: what is to come stands before what is written
 

@@ -23,11 +23,11 @@ use Rattle.jobs.specs.declared.run.Ended.{Ended}
 use Rattle.jobs.specs.declared.run.Ended.the-variants.{More, Full, Stopped}
 use Rattle.jobs.specs.declared.run.Run.{Run}
 use Rattle.jobs.specs.Kinds.{fieldOf, known, bodyOf}
-use Rattle.jobs.specs.Text.{Put, front}
+use Rattle.laws.specs.Writing.{Put, front}
 use Rattle.jobs.specs.Line.{isDrawn}
 use Rattle.jobs.specs.Run.{Job, Front, nothing, unknown, cut, whole, jobOf, frontOf, by, counted, countedIf, lineFor, drawnFor, endLine, stopLine, runBy, runFrom, Held, ends, behind, heldBy, heldRun, haltedAt, runOf}
 use Rattle.jobs.proofs.Bodies.{body-none, body-some, body-field}
-use Rattle.jobs.proofs.Putting.{placed, then, at-front}
+use Rattle.laws.proofs.Writing.{placed, then, at-front}
 
 -- ---- how bytes begin
 

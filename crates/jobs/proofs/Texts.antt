@@ -29,13 +29,14 @@ use Rattle.tables.specs.Printed.{text}
 use Rattle.symbologies.specs.Sizes.{longest}
 use Rattle.jobs.specs.Sizes.{longestLine}
 use Rattle.jobs.specs.Kinds.{symbologyOf}
-use Rattle.jobs.specs.Text.{decimal, widths, spaced, Put, front, roomy}
+use Rattle.laws.specs.Writing.{Put, front}
+use Rattle.jobs.specs.Text.{decimal, widths, spaced, roomy}
 use Rattle.jobs.specs.Line.{callOf, saidFor, isDrawn, shown, lineSaid, lineOf}
 use Rattle.jobs.specs.Run.{endLine, stopLine}
 use Rattle.jobs.proofs.Digits.{few}
 use Rattle.jobs.proofs.Narrow.{narrow-room}
 use Rattle.jobs.proofs.Fits.{drawn-room}
-use Rattle.jobs.proofs.Putting.{placed, one, then, same-text, at-front}
+use Rattle.laws.proofs.Writing.{placed, one, then, same-text, at-front}
 
 -- ---- the line of a record
 

@@ -5,15 +5,10 @@
 --   widths     each width as a digit
 --   line       words with a blank between each two, and the newline behind the last
 --   spaced     numbers, each with a blank behind it
---   putIn      a text in a buffer from an index on: what stands before and behind stays
---   Put        so it was written, and `next` is the place behind it
---   front      a text at the buffer's front
 --   roomy      a text for a buffer of so many bytes: none where they could not hold the longest line
-use mathlib.Core.Path.{_≡_}
 use mathlib.Core.List.{List, [], _∷_, _++_, map}
-use Prim.Native.Nat.{ℕ, zero, suc, _+_, _/_, _%_, _≤_}
+use Prim.Native.Nat.{ℕ, zero, suc, _+_, _/_, _%_}
 use lib.Dec.{ltb}
-use lib.ListN.{length, take, drop}
 use Rattle.laws.specs.Search.{pick}
 use Rattle.jobs.specs.Sizes.{longestLine}
 
@@ -35,18 +30,6 @@ line (w ∷ v ∷ ws) = w ++ (32 ∷ line (v ∷ ws))
 abbrev pub spaced : List ℕ → List ℕ
 spaced [] = []
 spaced (n ∷ ns) = decimal n ++ (32 ∷ spaced ns)
-
-abbrev pub putIn : ℕ → List ℕ → List ℕ → List ℕ
-putIn at text out = take at out ++ (text ++ drop (at + length text) out)
-
-pub record Put (out : List ℕ) (at : ℕ) (text now : List ℕ) (next : ℕ) : Type 0 where
-  pub is : now ≡ putIn at text out
-  pub long : length now ≡ length out
-  pub behind : next ≡ at + length text
-  pub fits : at + length text ≤ length out
-
-abbrev pub front : List ℕ → List ℕ → List ℕ
-front text out = text ++ drop (length text) out
 
 abbrev pub roomy : ℕ → List ℕ → List ℕ
 roomy room text = pick (ltb room longestLine) [] text

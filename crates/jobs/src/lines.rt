@@ -10,7 +10,8 @@ ghost use Prim.Native.Nat.{ℕ, _+_, _≤_};
 ghost use lib.ListN.{length, getD};
 ghost use Rattle.symbologies.specs.Sizes.{longest};
 ghost use Rattle.jobs.specs.Sizes.{longestLine};
-ghost use Rattle.jobs.specs.Text.{spaced, Put, front, roomy};
+ghost use Rattle.laws.specs.Writing.{Put, front};
+ghost use Rattle.jobs.specs.Text.{spaced, roomy};
 ghost use Rattle.jobs.specs.Line.{shown, isDrawn, lineOf};
 ghost use Rattle.jobs.specs.Run.{endLine, stopLine};
 

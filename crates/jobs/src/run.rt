@@ -5,7 +5,7 @@ use super::sizes::LONGEST_LINE;
 ghost use mathlib.Core.Path.{_≡_};
 ghost use Prim.Native.Nat.{_≤_};
 ghost use lib.ListN.{length};
-ghost use Rattle.jobs.specs.Text.{front};
+ghost use Rattle.laws.specs.Writing.{front};
 ghost use Rattle.jobs.specs.Run.{counted, countedIf, heldRun, haltedAt, runOf};
 
 // Why a call took no further record.

@@ -3,7 +3,8 @@ ghost use mathlib.Core.Path.{_≡_};
 ghost use mathlib.Core.List.{[], _∷_, _++_};
 ghost use Prim.Native.Nat.{ℕ, _+_, _≤_};
 ghost use lib.ListN.{length, take, getD};
-ghost use Rattle.jobs.specs.Text.{decimal, widths, putIn, Put};
+ghost use Rattle.laws.specs.Writing.{putIn, Put};
+ghost use Rattle.jobs.specs.Text.{decimal, widths};
 
 // How many decimal digits a number has.
 fn count_digits(n: u64) -> usize

@@ -11,4 +11,5 @@ pub mod Remainders
 pub mod Weigh
 pub mod Neighbours
 pub mod Rules
+pub mod Writing
 pub mod Only

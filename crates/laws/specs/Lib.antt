@@ -7,3 +7,4 @@ pub mod Rules
 pub mod Neighbours
 pub mod Spelling
 pub mod One
+pub mod Writing

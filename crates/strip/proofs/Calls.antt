@@ -53,26 +53,43 @@ pick-buffer : (b : Bool) (x y : List ℕ) (p q : Call) → x ≡ p .buffer → y
 pick-buffer true x y p q e f = e
 pick-buffer false x y p q e f = f
 
-module _ (s m count : ℕ) (field out r : List ℕ) (e : rowOfField s m count field ≡ gives r) (h : ready s r ≡ true) where
+module _ (s m count : ℕ) (field out r : List ℕ) (e : rowOfField s m count field ≡ gives r) where
   same-answer : answerOf (laidOf s r (length out)) ≡ drawField s m count field out .answer
   unfolding laidOf
-  same-answer = rw (draw-given s m count field out r e, h) (pick-answer (ltb (length out) (elementsOf s (length r))) _ _ _ _ refl refl)
+  same-answer = rw (draw-given s m count field out r e) (pick-answer (ltb (length out) (elementsOf s (length r))) _ _ _ _ refl refl)
 
   same-buffer : laidIn s r out ≡ drawField s m count field out .buffer
   unfolding laidIn
-  same-buffer = rw (draw-given s m count field out r e, h) (pick-buffer (ltb (length out) (elementsOf s (length r))) _ _ _ _ refl refl)
+  same-buffer = rw (draw-given s m count field out r e) (pick-buffer (ltb (length out) (elementsOf s (length r))) _ _ _ _ refl refl)
 
-pub laid-out : (s m count : ℕ) (field out next : List ℕ) (x : Rowed) (a : Answer) → x ≡ told (rowOfField s m count field) → x .verdict ≡ given-row
-    → a ≡ answerOf (laidOf s (charsOf (x .row)) (length out)) → next ≡ laidIn s (charsOf (x .row)) out
-    → (a ≡ drawField s m count field out .answer) × (next ≡ drawField s m count field out .buffer)
-laid-out s m count field out next x a e v f g = go (rowOfField s m count field) refl e
-  where
-    go : (z : Outcome) → rowOfField s m count field ≡ z → x ≡ told z → (a ≡ drawField s m count field out .answer) × (next ≡ drawField s m count field out .buffer)
-    go (turned b) w q = absurd (let u : Turned b ≡ given-row = sym (ap (λ (y : Rowed). y .verdict) q) ∙ v in let z : _≡_ {A = ℕ} 0 1 = cc in omega arith)
-    go (gives r) w q =
-        let d : rowOf s m (take count field) ≡ gives r = field-data s m count field r w in
-        let h : ready s r ≡ true = drawn-ready s m (take count field) r d in
-        let c : charsOf (x .row) ≡ r = ap (λ (y : Rowed). charsOf (y .row)) q ∙ chars-of r (counted-few s (length r) (ready-counted s r h)) in (
-          f ∙ ap (λ (u : List ℕ). answerOf (laidOf s u (length out))) c ∙ same-answer s m count field out r w h,
-          g ∙ ap (λ (u : List ℕ). laidIn s u out) c ∙ same-buffer s m count field out r w h,
-        )
+-- such a row is ready
+module _ (s m count : ℕ) (field : List ℕ) (x : Rowed) (e : x ≡ told (rowOfField s m count field)) (v : x .verdict ≡ given-row) where
+  given-ready : (r : List ℕ) → rowOfField s m count field ≡ gives r → x ≡ told (gives r) → (charsOf (x .row) ≡ r) × (ready s r ≡ true)
+  given-ready r w q =
+      let h : ready s r ≡ true = drawn-ready s m (take count field) r (field-data s m count field r w) in
+      (ap (λ (y : Rowed). charsOf (y .row)) q ∙ chars-of r (counted-few s (length r) (ready-counted s r h)), h)
+
+  not-turned : (b : Answer) → x ≡ told (turned b) → ⊥
+  not-turned b q =
+      let u : Turned b ≡ given-row = sym (ap (λ (y : Rowed). y .verdict) q) ∙ v in
+      let z : _≡_ {A = ℕ} 0 1 = cc in
+      omega arith
+
+  pub row-ready : ready s (charsOf (x .row)) ≡ true
+  row-ready = go (rowOfField s m count field) refl e
+    where
+      go : (z : Outcome) → rowOfField s m count field ≡ z → x ≡ told z → ready s (charsOf (x .row)) ≡ true
+      go (turned b) w q = absurd (not-turned b q)
+      go (gives r) w q = let c = given-ready r w q in rw (c .0) (c .1)
+
+  pub laid-out : (out next : List ℕ) (a : Answer) → a ≡ answerOf (laidOf s (charsOf (x .row)) (length out)) → next ≡ laidIn s (charsOf (x .row)) out
+      → (a ≡ drawField s m count field out .answer) × (next ≡ drawField s m count field out .buffer)
+  laid-out out next a f g = go (rowOfField s m count field) refl e
+    where
+      go : (z : Outcome) → rowOfField s m count field ≡ z → x ≡ told z → (a ≡ drawField s m count field out .answer) × (next ≡ drawField s m count field out .buffer)
+      go (turned b) w q = absurd (not-turned b q)
+      go (gives r) w q =
+          let c = given-ready r w q in (
+            f ∙ ap (λ (u : List ℕ). answerOf (laidOf s u (length out))) (c .0) ∙ same-answer s m count field out r w,
+            g ∙ ap (λ (u : List ℕ). laidIn s u out) (c .0) ∙ same-buffer s m count field out r w,
+          )

@@ -13,13 +13,13 @@ use Prim.Native.Nat.{ℕ}
 use lib.Dec.{ltb}
 use lib.ListN.{length, take, drop}
 use Rattle.words.specs.declared.Answer.{Answer}
-use Rattle.words.specs.declared.Answer.the-variants.{Drawn, ShortForStrip, BadCount}
+use Rattle.words.specs.declared.Answer.the-variants.{Drawn, ShortForStrip}
 use Rattle.words.specs.Order.{Check, check, firstOf, elementCount, moduleCount}
 use Rattle.symbologies.specs.Symbologies.{symbologyOf}
 use Rattle.symbologies.specs.Rows.{rowDrawn, rowChecks}
 use Rattle.symbologies.specs.Strips.{elementsOf, modulesOf, stripOf}
 use Rattle.units.specs.declared.Laid.{Laid}
-use Rattle.units.specs.declared.Laid.the-variants.{Strip, Short, NoRow}
+use Rattle.units.specs.declared.Laid.the-variants.{Strip, Short}
 
 pub record Call : Type 0 where
   pub answer : Answer
@@ -56,4 +56,3 @@ drawnAnswer s m d =
 abbrev pub answerOf : Laid → Answer
 answerOf (Strip e m) = Drawn e m
 answerOf (Short e) = ShortForStrip e
-answerOf NoRow = BadCount

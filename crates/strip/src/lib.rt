@@ -22,7 +22,9 @@ use units::Laid;
 use words::Answer;
 use words::Modules;
 ghost use mathlib.Core.Path.{_≡_};
+ghost use mathlib.Core.Bool.{true};
 ghost use lib.ListN.{length};
+ghost use Rattle.symbologies.specs.Strips.{ready};
 ghost use Rattle.symbologies.specs.Told.{modulesWithin};
 ghost use Rattle.data.specs.Held.{dataOfRow, handedOf, written};
 ghost use Rattle.units.specs.Laid.{charsOf, laidOf, laidIn};
@@ -58,8 +60,9 @@ pub fn draw_field(kind: u8, mode: u8, count: usize, field: &[u8], out: &mut [u8]
     }
 }
 
-// The answer for a row. A row that was given is one of its symbology, so that the last case can't come.
+// The answer for a row of its symbology.
 fn lay(symbology: u8, row: Row, out: &mut [u8]) -> Answer
+    requires { ⌜ ready symbology (charsOf row) ≡ true ⌝ }
     ensures { λ r. ⌜ r ≡ answerOf (laidOf symbology (charsOf row) (length (now (out .entry)))) ⌝ }
     ensures { λ _. ⌜ now (out .exit) ≡ laidIn symbology (charsOf row) (now (out .entry)) ⌝ }
 {
@@ -67,7 +70,6 @@ fn lay(symbology: u8, row: Row, out: &mut [u8]) -> Answer
     match laid {
         Laid::Strip(elements, modules) => Answer::Drawn(elements, modules),
         Laid::Short(elements) => Answer::ShortForStrip(elements),
-        Laid::NoRow => Answer::BadCount,
     }
 }
 

@@ -1,7 +1,7 @@
-pub mod Putting
+pub mod Bytes
+pub mod Marks
+pub mod Choosing
 pub mod Parts
-pub mod Given
-pub mod Sides
-pub mod Passes
+pub mod Built
 pub mod Drawn
 pub mod Only

@@ -1,233 +1,238 @@
--- The strip of each symbology as the code puts it together: head, units, tail, each a stretch of the ready-made rows.
+-- A strip's parts, one cut off after another: a mark draws no choice, and each unit of a part draws one.
 --
---   row-test, row-of    a table's rows stand where they are cut, by one computed test
---   within-below  the rows of characters of a set lie within the text
---   Shows, units-of    a group that shows one character as elements of the text; n times: its rows one behind the other
---   shows-parted, shows, shows-left, shows-odd    such groups: with a parting space, without, EAN's left sets
---   ends39, endsIndustrial, endsMatrix    where start and stop stand
---   rotated       a parting space before each unit and the rest, or one before the units and one behind each
---   between-ends, built    a start, the characters, a stop, and the call that puts them there
---   pairs-of      n pairs
---   strip39, stripIndustrial, stripMatrix, stripCodabar, stripInterleaved, two-halves    the strip of each symbology
+--   next-choice     the choices from an index on; inside, those of a part among all
+--   Cut, part-cut   the first part of a strip: how many choices it draws, each one of its rows, and what the others draw
+--   Left, started, Turn, turn, ended    the loop over parts: what is left to draw, and a part of it
+--   sound-mark, sound-unit, none-count    what is asked of a description; a part of no units has none
 --
 -- Assumes nothing.
 use mathlib.Core.Path.{_≡_, refl, sym, ap, _∙_}
-use mathlib.Core.Bool.{Bool, true, false}
-use mathlib.Core.List.{List, [], _∷_, _++_, append-assoc, append-nil}
-use Prim.Native.Nat.{ℕ, zero, suc, _+_, _*_, _-_, _/_, _<_, _≤_}
+use mathlib.Core.Bool.{Bool, true, false, _&&_, _||_}
+use mathlib.Core.List.{List, [], _∷_, _++_, map, append-nil, append-assoc}
+use Prim.Native.Nat.{ℕ, zero, suc, _+_, _-_, _<_, _≤_}
 use native.Mathlib.Omega.{arith}
-use native.Mathlib.Nat.{mul-le-mul-left, mul-suc}
-use lib.ListN.{length, getD, take, length-append}
-use Rattle.laws.specs.Elements.{alike}
-use Rattle.laws.specs.Units.{Kind, fixed, free, strip}
-use Rattle.laws.specs.Shapes.{many, gap}
-use Rattle.laws.proofs.Finite.{upto, upto-at, every, every-at}
-use Rattle.laws.proofs.Elements.{alike-true}
-use Rattle.laws.proofs.Spelling.{Below}
-use Rattle.tables.specs.Bits.{weave}
-use Rattle.tables.specs.Alphabet.{rowsOf, bitsOf}
-use Rattle.tables.specs.Code39.{table42, chars39, alphabet39, rows39, star39}
-use Rattle.tables.specs.Codabar.{table41, alphabetCodabar, innerRows, letterRows}
-use Rattle.tables.specs.TwoOfFive.{table44, alphabetDigits, digitRows, industrialRows, industrialStart, industrialStop, interleavedRows, interleavedStart, interleavedStop, matrixRows, matrixEnds}
-use Rattle.tables.specs.Ean.{table52, patterns, oddRows, evenRows, leftRows, rightRows, guard, centre}
-use Rattle.symbologies.specs.Parts.{partUnits, starred, lettering, industrial, interleaved, matrix, halved, lowered, paired}
-use Rattle.symbologies.specs.Symbologies.{symbologies, symbologyOf}
-use Rattle.symbologies.specs.Strips.{elementsOf, unitsOf, stripOf}
-use Rattle.units.specs.declared.layout.Ends.{Ends}
-use Rattle.units.specs.Room.{cut, parted, unitsIn, partedIn, Within, pairsIn, leftIn, rightIn, text39, textCodabar, textIndustrial, textInterleaved, textMatrix, textEan}
+use native.Mathlib.Numerals.{add-one}
+use Prim.Native.Nat.{zero-le, suc-le-suc}
+use lib.Dec.{eqb}
+use lib.ListN.{length, getD, take, drop, length-map, length-append, length-drop, drop-of-length-le}
+use lib.Seq.{drop-cons, drop-drop, take-take, length-take-le}
+use borrow.Author.Tests.{eqb-true}
+use Rattle.laws.specs.Search.{pick}
+use Rattle.laws.specs.Units.{Kind, fixed, free, strip, frees, Fits}
+use Rattle.laws.specs.Writing.{putIn, Put}
+use Rattle.laws.proofs.Writing.{Rest, rest-start, rest-put, rest-end}
+use Rattle.laws.specs.Shapes.{many}
+use Rattle.laws.specs.Spelling.{counted}
+use Rattle.laws.proofs.Finite.{both-left, both-right}
+use Rattle.laws.proofs.Spelling.{Below, counted-length}
+use Rattle.shapes.specs.declared.parts.Mark.{Mark}
+use Rattle.shapes.specs.declared.parts.Unit.{Unit}
+use Rattle.shapes.specs.declared.parts.Count.{Count}
+use Rattle.shapes.specs.declared.parts.Count.the-variants.{Of, All, Inner, Half}
+use Rattle.shapes.specs.declared.parts.Part.{Part as Line}
+use Rattle.shapes.specs.Sets.{rowOf, setsOf}
+use Rattle.shapes.specs.Described.{gapIn, markIn, rowIn, unitIn, countIn, isNone, partIn, sizeable, within, sound, Describes}
+use Rattle.symbologies.specs.Sizes.{places}
+use Rattle.symbologies.specs.Parts.{Part, close, partUnits}
+use Rattle.symbologies.specs.Symbologies.{symbologyOf}
+use Rattle.symbologies.specs.Strips.{unitsOf}
+use Rattle.units.specs.Units.{laid}
 
--- ---- rows where they are cut
+-- ---- choices
 
-abbrev pub row-test : List ℕ → ℕ → ℕ → (List ℕ → List ℕ) → List (List ℕ) → Bool
-row-test t base k f rows = every [] (λ c row. alike (cut t (base + k * c) k) (f row)) 0 rows
+pub next-choice : (ch : List ℕ) (i past : ℕ) → i < past → past ≤ length ch
+    → take (past - i) (drop i ch) ≡ getD ch i 0 ∷ take (past - (i + 1)) (drop (i + 1) ch)
+next-choice ch i past h l =
+    let e : past - i ≡ suc (past - (i + 1)) = omega arith in
+    rw (e, drop-cons ch i 0 (omega arith), add-one i) refl
 
-pub row-of : (t : List ℕ) (base k : ℕ) (f : List ℕ → List ℕ) (rows : List (List ℕ)) → row-test t base k f rows ≡ true
-    → (c : ℕ) → c < length rows → cut t (base + k * c) k ≡ f (getD rows c [])
-row-of t base k f rows e c h = alike-true _ _ (every-at [] (λ c row. alike (cut t (base + k * c) k) (f row)) rows e c h)
+pub inside : (ch : List ℕ) (all first k : ℕ) → first + k ≤ all → take k (drop first (take all ch)) ≡ take k (drop first ch)
+inside ch all zero k h = take-take k all ch (omega arith)
+inside ch zero (suc f) k h = absurd (omega arith)
+inside [] (suc a) (suc f) k h = refl
+inside (c ∷ ch) (suc a) (suc f) k h = inside ch a f k (omega arith)
 
-pub within-below : (long base k size : ℕ) (cs : List ℕ) → base + k * size ≤ long → Below size cs → Within long base k cs
-within-below long base k size [] h b = tt
-within-below long base k size (c ∷ cs) h b =
-    (omega (arith, mul-suc k c, mul-le-mul-left k (b .0)), within-below long base k size cs h (b .1))
+-- ---- what is asked of a description
 
--- ---- n times a group
+module _ (n : ℕ) (p : Line) (s : sound n p ≡ true) where
+  abbrev mark-good : Bool
+  mark-good = eqb (p .mark .elements) 0 || sizeable 9 (p .mark .elements)
 
--- a group that shows one character as k elements of the text
-abbrev pub Shows : List ℕ → ℕ → ℕ → ℕ → List Kind → Type 0
-Shows t base k size group = (c : ℕ) → c < size → (ks : List Kind) (cs : List ℕ) → strip (group ++ ks) (c ∷ cs) ≡ cut t (base + k * c) k ++ strip ks cs
+  abbrev unit-good : Bool
+  unit-good = sizeable 10 (p .unit .elements) && within n (p .unit)
 
-pub units-of : (t : List ℕ) (base k size : ℕ) (group rest : List Kind) → Shows t base k size group → (cs ds : List ℕ) → Below size cs
-    → strip (many (length cs) group rest) (cs ++ ds) ≡ unitsIn t base k cs ++ strip rest ds
-units-of t base k size group rest s [] ds b = refl
-units-of t base k size group rest s (c ∷ cs) ds b =
-    s c (b .0) (many (length cs) group rest) (cs ++ ds)
-    ∙ ap (λ (x : List ℕ). cut t (base + k * c) k ++ x) (units-of t base k size group rest s cs ds (b .1))
-    ∙ sym (append-assoc (cut t (base + k * c) k) (unitsIn t base k cs) (strip rest ds))
+  pub sound-mark : (eqb (p .mark .elements) 0 || sizeable 9 (p .mark .elements)) ≡ true
+  sound-mark = both-left mark-good (isNone (p .count) || unit-good) s
 
--- with a parting space, or without
-pub shows-parted : (t : List ℕ) (base k : ℕ) (rows : List (List ℕ)) → row-test t base k parted rows ≡ true
-    → Shows t base k (length rows) (free rows ∷ gap ∷ [])
-shows-parted t base k rows e c h ks cs =
-    rw (row-of t base k parted rows e c h) (sym (append-assoc (getD rows c []) (1 ∷ []) (strip ks cs)))
+  pub sound-unit : isNone (p .count) ≡ false → (sizeable 10 (p .unit .elements) ≡ true) × (within n (p .unit) ≡ true)
+  sound-unit e =
+      let b : unit-good ≡ true = rw e at (both-right mark-good (isNone (p .count) || unit-good) s) in
+      (both-left (sizeable 10 (p .unit .elements)) (within n (p .unit)) b, both-right (sizeable 10 (p .unit .elements)) (within n (p .unit)) b)
 
-pub shows : (t : List ℕ) (base k : ℕ) (rows : List (List ℕ)) → row-test t base k (λ r. r) rows ≡ true
-    → Shows t base k (length rows) (free rows ∷ [])
-shows t base k rows e c h ks cs = rw (row-of t base k (λ r. r) rows e c h)
+pub none-count : (c : Count) (n : ℕ) → isNone c ≡ true → countIn c n ≡ 0
+none-count (Of k) n e = eqb-true k 0 e
+none-count All n e = cc
+none-count Inner n e = cc
+none-count Half n e = cc
 
--- ---- Code 39, Industrial, Matrix: a start, the characters, a stop, parted
+-- ---- a mark draws no choice
 
-rotated : (n : ℕ) (a b : Kind) (rest : List Kind) → many n (a ∷ b ∷ []) (a ∷ rest) ≡ a ∷ many n (b ∷ a ∷ []) rest
-rotated zero a b rest = refl
-rotated (suc n) a b rest = ap (λ (x : List Kind). a ∷ b ∷ x) (rotated n a b rest)
+module _ (m : Mark) (rest : List Kind) (cs : List ℕ) where
+  mark-text : strip (markIn m ++ rest) cs ≡ strip (markIn m) [] ++ strip rest cs
+  mark-text = go (eqb (m .elements) 0) (m .gap)
+    where
+      row : List ℕ
+      row = rowOf (m .elements) (m .word)
 
-pub between-ends : (t : List ℕ) (k : ℕ) (e : Ends) (rows : List (List ℕ)) (start stop : List ℕ) → row-test t 0 k parted rows ≡ true
-    → cut t (e .start) (e .long) ≡ parted start → cut t (e .stop) (e .short) ≡ stop → (r : List ℕ) → Below (length rows) r
-    → strip (fixed start ∷ many (length r) (gap ∷ free rows ∷ []) (gap ∷ fixed stop ∷ [])) r ≡ partedIn k e r t
-between-ends t k e rows start stop f a z r b =
-    let u : strip (many (length r) (free rows ∷ gap ∷ []) (fixed stop ∷ [])) (r ++ []) ≡ unitsIn t 0 k r ++ (stop ++ [])
-    = units-of t 0 k (length rows) (free rows ∷ gap ∷ []) (fixed stop ∷ []) (shows-parted t 0 k rows f) r [] b in
-    let v : strip (many (length r) (free rows ∷ gap ∷ []) (fixed stop ∷ [])) r ≡ unitsIn t 0 k r ++ stop
-    = ap (λ (x : List ℕ). strip (many (length r) (free rows ∷ gap ∷ []) (fixed stop ∷ [])) x) (sym (append-nil r))
-    ∙ u ∙ ap (λ (x : List ℕ). unitsIn t 0 k r ++ x) (append-nil stop) in
-    rw (a, z, rotated (length r) gap (free rows) (fixed stop ∷ []))
-    (ap (λ (x : List ℕ). start ++ ((1 ∷ []) ++ x)) v ∙ sym (append-assoc start (1 ∷ []) (unitsIn t 0 k r ++ stop))
-    ∙ sym (append-assoc (parted start) (unitsIn t 0 k r) stop))
+      go : (b g : Bool) → strip (pick b [] (gapIn g ++ (fixed row ∷ [])) ++ rest) cs ≡ strip (pick b [] (gapIn g ++ (fixed row ∷ []))) [] ++ strip rest cs
+      go true g = refl
+      go false true = rw (append-nil row) refl
+      go false false = rw (append-nil row) refl
 
-abbrev pub ends39 : Ends
-ends39 = record { start = 430; long = 10; stop = 430; short = 9 }
+  mark-fits : Fits (markIn m ++ rest) cs → Fits rest cs
+  mark-fits = go (eqb (m .elements) 0) (m .gap)
+    where
+      go : (b g : Bool) → Fits (pick b [] (gapIn g ++ (fixed (rowOf (m .elements) (m .word)) ∷ [])) ++ rest) cs → Fits rest cs
+      go true g f = f
+      go false true f = f
+      go false false f = f
 
-abbrev pub endsIndustrial : Ends
-endsIndustrial = record { start = 100; long = 6; stop = 106; short = 5 }
+-- ---- each unit draws one
 
-abbrev pub endsMatrix : Ends
-endsMatrix = record { start = 60; long = 6; stop = 60; short = 5 }
+pub record Cut (unit rest : List Kind) (size k : ℕ) (cs whole : List ℕ) : Type 0 where
+  pub few : k ≤ length cs
+  pub below : Below size (take k cs)
+  pub fits : Fits rest (drop k cs)
+  pub is : whole ≡ laid unit (take k cs) ++ strip rest (drop k cs)
 
-pub strip39 : (r : List ℕ) → Below 43 r → stripOf 1 r ≡ partedIn 10 ends39 r text39
-unfolding stripOf unitsOf symbologyOf symbologies starred text39 rows39 star39 rowsOf bitsOf alphabet39 chars39 table42
-strip39 = between-ends text39 10 ends39 rows39 star39 star39 refl refl refl
+module _ (rows : List (List ℕ)) (rest : List Kind) where
+  one-text : (g : Bool) (c : ℕ) (cs : List ℕ)
+      → strip ((gapIn g ++ (free rows ∷ [])) ++ rest) (c ∷ cs) ≡ strip (gapIn g ++ (free rows ∷ [])) (c ∷ []) ++ strip rest cs
+  one-text true c cs = rw (append-nil (getD rows c [])) refl
+  one-text false c cs = rw (append-nil (getD rows c [])) refl
 
-pub stripIndustrial : (r : List ℕ) → Below 10 r → stripOf 4 r ≡ partedIn 10 endsIndustrial r textIndustrial
-unfolding stripOf unitsOf symbologyOf symbologies industrial textIndustrial industrialRows industrialStart industrialStop digitRows rowsOf alphabetDigits table44
-stripIndustrial = between-ends textIndustrial 10 endsIndustrial industrialRows industrialStart industrialStop refl refl refl
+  one-fits : (g : Bool) (c : ℕ) (cs : List ℕ) → Fits ((gapIn g ++ (free rows ∷ [])) ++ rest) (c ∷ cs) → (c < length rows) × Fits rest cs
+  one-fits true c cs f = f
+  one-fits false c cs f = f
 
-pub stripMatrix : (r : List ℕ) → Below 10 r → stripOf 6 r ≡ partedIn 6 endsMatrix r textMatrix
-unfolding stripOf unitsOf symbologyOf symbologies matrix textMatrix matrixRows matrixEnds digitRows rowsOf alphabetDigits table44
-stripMatrix = between-ends textMatrix 6 endsMatrix matrixRows matrixEnds matrixEnds refl refl refl
+  one-some : (g : Bool) → Fits ((gapIn g ++ (free rows ∷ [])) ++ rest) [] → ⊥
+  one-some true f = f
+  one-some false f = f
 
--- the call that puts it there
-pub built : (s k : ℕ) (e : Ends) (text t r room : List ℕ) (n : ℕ) → t ≡ text → stripOf s r ≡ partedIn k e r text → elementsOf s n ≡ e .long + k * n + e .short
-    → take (e .long + k * n + e .short) room ≡ partedIn k e r t → take (elementsOf s n) room ≡ stripOf s r
-built s k e text t r room n q f l x = ap (λ (m : ℕ). take m room) l ∙ x ∙ ap (partedIn k e r) q ∙ sym f
+units-cut : (g : Bool) (rows : List (List ℕ)) (rest : List Kind) (k : ℕ) (cs : List ℕ) → Fits (many k (gapIn g ++ (free rows ∷ [])) rest) cs
+    → Cut (gapIn g ++ (free rows ∷ [])) rest (length rows) k cs (strip (many k (gapIn g ++ (free rows ∷ [])) rest) cs)
+units-cut g rows rest zero cs f = record { few = zero-le; below = tt; fits = f; is = refl }
+units-cut g rows rest (suc k) [] f = absurd (one-some rows (many k (gapIn g ++ (free rows ∷ [])) rest) g f)
+units-cut g rows rest (suc k) (c ∷ cs) f =
+    let u : List Kind = gapIn g ++ (free rows ∷ []) in
+    let o : (c < length rows) × Fits (many k u rest) cs = one-fits rows (many k u rest) g c cs f in
+    let t : Cut u rest (length rows) k cs (strip (many k u rest) cs) = units-cut g rows rest k cs (o .1) in
+    record {
+      few = suc-le-suc (t .few);
+      below = (o .0, t .below);
+      fits = t .fits;
+      is = one-text rows (many k u rest) g c cs ∙ ap (λ (l : List ℕ). strip u (c ∷ []) ++ l) (t .is) ∙ sym (append-assoc (strip u (c ∷ [])) _ _);
+    }
 
--- ---- Codabar: letters at both ends
-
-shows-inner : Shows textCodabar 0 8 16 (free innerRows ∷ gap ∷ [])
-unfolding textCodabar innerRows letterRows rowsOf alphabetCodabar table41
-shows-inner = shows-parted textCodabar 0 8 innerRows refl
-
--- a letter with its parting space, and without
-letter-parted : (c : ℕ) → c < 4 → cut textCodabar (128 + 8 * c) 8 ≡ parted (getD letterRows c [])
-unfolding textCodabar innerRows letterRows rowsOf alphabetCodabar table41
-letter-parted = row-of textCodabar 128 8 parted letterRows refl
-
-letter-alone : (c : ℕ) → c < 4 → cut textCodabar (128 + 8 * c) 7 ≡ getD letterRows c []
-unfolding textCodabar innerRows letterRows rowsOf alphabetCodabar table41
-letter-alone c h = alike-true _ _ (every-at [] (λ c row. alike (cut textCodabar (128 + 8 * c) 7) row) letterRows refl c h)
-
-lowered-inner : (mid : List ℕ) (z : ℕ) → lowered false (mid ++ (z ∷ [])) ≡ mid ++ ((z - 16) ∷ [])
-lowered-inner [] z = refl
-lowered-inner (c ∷ []) z = refl
-lowered-inner (c ∷ d ∷ mid) z = ap (λ (x : List ℕ). c ∷ x) (lowered-inner (d ∷ mid) z)
-
-lowered-all : (a : ℕ) (mid : List ℕ) (z : ℕ) → lowered true (a ∷ (mid ++ (z ∷ []))) ≡ (a - 16) ∷ (mid ++ ((z - 16) ∷ []))
-lowered-all a [] z = refl
-lowered-all a (c ∷ mid) z = ap (λ (x : List ℕ). (a - 16) ∷ x) (lowered-inner (c ∷ mid) z)
-
-inner-count : (mid : List ℕ) (a z : ℕ) → length (a ∷ (mid ++ (z ∷ []))) - 2 ≡ length mid
-inner-count mid a z = let e : length (mid ++ (z ∷ [])) ≡ length mid + 1 = length-append mid (z ∷ []) in omega arith
-
-abbrev codabarUnits : ℕ → List Kind
-codabarUnits n = free letterRows ∷ many n (gap ∷ free innerRows ∷ []) (gap ∷ free letterRows ∷ [])
-
-codabar-parts : (l y : ℕ) (mid : List ℕ) → l < 4 → y < 4 → Below 16 mid
-    → strip (codabarUnits (length mid)) (l ∷ (mid ++ (y ∷ []))) ≡ cut textCodabar (128 + 8 * l) 8 ++ unitsIn textCodabar 0 8 mid ++ cut textCodabar (128 + 8 * y) 7
-codabar-parts l y mid h k b =
-    let u : strip (many (length mid) (free innerRows ∷ gap ∷ []) (free letterRows ∷ [])) (mid ++ (y ∷ [])) ≡ unitsIn textCodabar 0 8 mid ++ (getD letterRows y [] ++ [])
-    = units-of textCodabar 0 8 16 (free innerRows ∷ gap ∷ []) (free letterRows ∷ []) shows-inner mid (y ∷ []) b in
-    let v : getD letterRows y [] ++ [] ≡ cut textCodabar (128 + 8 * y) 7 = append-nil (getD letterRows y []) ∙ sym (letter-alone y k) in
-    rw (rotated (length mid) gap (free innerRows) (free letterRows ∷ []))
-    (ap (λ (x : List ℕ). getD letterRows l [] ++ ((1 ∷ []) ++ x)) (u ∙ ap (λ (x : List ℕ). unitsIn textCodabar 0 8 mid ++ x) v)
-    ∙ sym (append-assoc (getD letterRows l []) (1 ∷ []) (unitsIn textCodabar 0 8 mid ++ cut textCodabar (128 + 8 * y) 7))
-    ∙ ap (λ (x : List ℕ). x ++ (unitsIn textCodabar 0 8 mid ++ cut textCodabar (128 + 8 * y) 7)) (sym (letter-parted l h))
-    ∙ sym (append-assoc (cut textCodabar (128 + 8 * l) 8) (unitsIn textCodabar 0 8 mid) (cut textCodabar (128 + 8 * y) 7)))
-
-pub stripCodabar : (a : ℕ) (mid : List ℕ) (z : ℕ) → 16 ≤ a → a < 20 → Below 16 mid → 16 ≤ z → z < 20
-    → stripOf 3 (a ∷ (mid ++ (z ∷ []))) ≡ unitsIn textCodabar 0 8 (a ∷ mid) ++ cut textCodabar (8 * z) 7
-unfolding stripOf unitsOf symbologyOf symbologies lettering
-stripCodabar a mid z ha ka b hz kz =
-    let la : 128 + 8 * (a - 16) ≡ 0 + 8 * a = omega arith in
-    let lz : 128 + 8 * (z - 16) ≡ 8 * z = omega arith in
-    ap (λ (n : ℕ). strip (codabarUnits n) (lowered true (a ∷ (mid ++ (z ∷ []))))) (inner-count mid a z)
-    ∙ ap (strip (codabarUnits (length mid))) (lowered-all a mid z)
-    ∙ codabar-parts (a - 16) (z - 16) mid (omega arith) (omega arith) b
-    ∙ ap (λ (n : ℕ). cut textCodabar n 8 ++ unitsIn textCodabar 0 8 mid ++ cut textCodabar (128 + 8 * (z - 16)) 7) la
-    ∙ ap (λ (n : ℕ). unitsIn textCodabar 0 8 (a ∷ mid) ++ cut textCodabar n 7) lz
-
--- ---- Interleaved: pairs
-
-pair-rows : (a b : ℕ) → a < 10 → b < 10 → getD interleavedRows (10 * a + b) [] ≡ weave (cut textInterleaved (5 * a) 5) (cut textInterleaved (5 * b) 5)
-unfolding textInterleaved interleavedRows interleavedStart interleavedStop digitRows rowsOf alphabetDigits table44
-pair-rows a b h k =
-    alike-true _ _
-    (upto-at 10 (λ b. pair-test a b) (upto-at 10 (λ a. upto 10 (λ b. pair-test a b)) refl a h) b k)
+pub part-cut : (sets : List (List ℕ)) (p : Line) (n : ℕ) (rest : List Part) (cs : List ℕ) → Fits (partUnits n (partIn sets p ∷ rest)) cs
+    → Cut (unitIn sets (p .unit)) (partUnits n rest) (p .unit .size) (countIn (p .count) n) cs
+    (strip (many (countIn (p .count) n) (pick (isNone (p .count)) [] (unitIn sets (p .unit))) (partUnits n rest)) cs)
+    × (strip (partUnits n (partIn sets p ∷ rest)) cs
+    ≡ (strip (markIn (p .mark)) [] ++ laid (unitIn sets (p .unit)) (take (countIn (p .count) n) cs)) ++ strip (partUnits n rest) (drop (countIn (p .count) n) cs))
+part-cut sets p n rest cs f =
+    (t, mark-text (p .mark) _ cs ∙ ap (λ (l : List ℕ). strip (markIn (p .mark)) [] ++ l) (t .is) ∙ sym (append-assoc (strip (markIn (p .mark)) []) _ _))
   where
-    pair-test : ℕ → ℕ → Bool
-    pair-test a b = alike (getD interleavedRows (10 * a + b) []) (weave (cut textInterleaved (5 * a) 5) (cut textInterleaved (5 * b) 5))
+    k : ℕ
+    k = countIn (p .count) n
 
-pub pairs-of : (i : ℕ) (rest : List Kind) (r : List ℕ) → length r ≡ 2 * i → Below 10 r
-    → strip (many i (free interleavedRows ∷ []) rest) (paired r) ≡ pairsIn textInterleaved r ++ strip rest []
-pairs-of zero rest [] l b = refl
-pairs-of zero rest (a ∷ r) l b = absurd (omega arith)
-pairs-of (suc i) rest [] l b = absurd (omega arith)
-pairs-of (suc i) rest (a ∷ []) l b = absurd (omega arith)
-pairs-of (suc i) rest (a ∷ c ∷ r) l b =
-    rw (pair-rows a c (b .0) (b .1 .0), pairs-of i rest r (omega arith) (b .1 .1)) (sym (append-assoc (weave (cut textInterleaved (5 * a) 5) (cut textInterleaved (5 * c) 5)) (pairsIn textInterleaved r) (strip rest [])))
+    u : List Kind
+    u = unitIn sets (p .unit)
 
-pub stripInterleaved : (r : List ℕ) → length r ≡ 2 * (length r / 2) → Below 10 r
-    → stripOf 5 r ≡ cut textInterleaved 50 4 ++ pairsIn textInterleaved r ++ cut textInterleaved 54 3
-unfolding stripOf unitsOf symbologyOf symbologies interleaved textInterleaved interleavedStart interleavedStop digitRows rowsOf alphabetDigits table44
-stripInterleaved r e b =
-    ap (λ (x : List ℕ). cut textInterleaved 50 4 ++ x) (pairs-of (length r / 2) (fixed interleavedStop ∷ []) r e b)
-    ∙ sym (append-assoc (cut textInterleaved 50 4) (pairsIn textInterleaved r) (cut textInterleaved 54 3))
+    long : length (map (rowIn sets (p .unit)) (counted 0 (p .unit .size))) ≡ p .unit .size
+    long = length-map (counted 0 (p .unit .size)) (rowIn sets (p .unit)) ∙ counted-length 0 (p .unit .size)
 
--- ---- EAN and UPC: two halves
+    go : (b : Bool) → isNone (p .count) ≡ b → Fits (many k (pick b [] u) (partUnits n rest)) cs
+        → Cut u (partUnits n rest) (p .unit .size) k cs (strip (many k (pick b [] u) (partUnits n rest)) cs)
+    go true e g =
+        let z : k ≡ 0 = none-count (p .count) n e in
+        let w : Cut u (partUnits n rest) (p .unit .size) 0 cs (strip (partUnits n rest) cs)
+        = record { few = zero-le; below = tt; fits = rw z at g; is = refl } in
+        rw z w
+    go false e g = rw long at (units-cut (p .unit .gap) _ (partUnits n rest) k cs g)
 
-four : (a b c d : List ℕ) → a ++ (b ++ (c ++ d)) ≡ a ++ b ++ c ++ d
-four a b c d = sym (append-assoc a b (c ++ d)) ∙ sym (append-assoc (a ++ b) c d)
+    t : Cut u (partUnits n rest) (p .unit .size) k cs (strip (many k (pick (isNone (p .count)) [] u) (partUnits n rest)) cs)
+    t = go (isNone (p .count)) refl (mark-fits (p .mark) _ cs f)
 
-shows-right : Shows textEan 80 4 10 (free rightRows ∷ [])
-unfolding textEan oddRows evenRows rightRows guard centre patterns table52
-shows-right = shows textEan 80 4 rightRows refl
+-- ---- a strip, part by part
 
-pub shows-left : Shows textEan 0 4 20 (free leftRows ∷ [])
-unfolding textEan leftRows oddRows evenRows rightRows guard centre patterns table52
-shows-left = shows textEan 0 4 leftRows refl
+module _ (s n : ℕ) (ch : List ℕ) where
+  abbrev ps : List Part
+  ps = symbologyOf s .parts
 
-pub shows-odd : Shows textEan 0 4 10 (free oddRows ∷ [])
-unfolding textEan oddRows evenRows rightRows guard centre patterns table52
-shows-odd = shows textEan 0 4 oddRows refl
+  abbrev pub chosen : List ℕ
+  chosen = take (frees (unitsOf s n)) ch
 
-pub two-halves : (size : ℕ) (left : List (List ℕ)) → Shows textEan 0 4 size (free left ∷ []) → (n k : ℕ) (cs ds : List ℕ) → length cs ≡ k → length ds ≡ k → Below size cs → Below 10 ds
-    → strip (partUnits n (halved k left)) (cs ++ ds) ≡ leftIn textEan cs ++ rightIn textEan ds
-unfolding halved textEan guard centre oddRows evenRows rightRows patterns table52
-two-halves size left s n k cs ds p q b c =
-    let right : strip (many k (free rightRows ∷ []) (fixed guard ∷ [])) (ds ++ []) ≡ unitsIn textEan 80 4 ds ++ (guard ++ [])
-    = rw q at (units-of textEan 80 4 10 (free rightRows ∷ []) (fixed guard ∷ []) shows-right ds [] c) in
-    let all : strip (many k (free left ∷ []) (fixed centre ∷ many k (free rightRows ∷ []) (fixed guard ∷ []))) (cs ++ (ds ++ []))
-    ≡ unitsIn textEan 0 4 cs ++ (centre ++ strip (many k (free rightRows ∷ []) (fixed guard ∷ [])) (ds ++ []))
-    = rw p at (units-of textEan 0 4 size (free left ∷ []) (fixed centre ∷ many k (free rightRows ∷ []) (fixed guard ∷ [])) s cs (ds ++ []) b) in
-    let parts : strip (many k (free left ∷ []) (fixed centre ∷ many k (free rightRows ∷ []) (fixed guard ∷ []))) (cs ++ ds)
-    ≡ unitsIn textEan 0 4 cs ++ (cut textEan 123 5 ++ rightIn textEan ds)
-    = rw (append-nil ds) at (all ∙ ap (λ (x : List ℕ). unitsIn textEan 0 4 cs ++ (centre ++ x)) right) in
-    ap (λ (x : List ℕ). cut textEan 120 3 ++ x) parts
-    ∙ four (cut textEan 120 3) (unitsIn textEan 0 4 cs) (cut textEan 123 5) (rightIn textEan ds)
+  -- the parts and choices that are left, what they draw, and where
+  pub record Left (goal : List ℕ) (end i first : ℕ) (out : List ℕ) (at : ℕ) : Type 0 where
+    pub few : first ≤ length chosen
+    pub fits : Fits (partUnits n (drop i ps)) (drop first chosen)
+    pub rest : Rest goal end out at (strip (partUnits n (drop i ps)) (drop first chosen))
+
+  abbrev text : List (List ℕ) → Line → ℕ → ℕ → List ℕ
+  text sets p first past = strip (markIn (p .mark)) [] ++ laid (unitIn sets (p .unit)) (take (past - first) (drop first ch))
+
+  -- what a turn asks of the next part, and what it leaves
+  pub record Turn (goal : List ℕ) (end : ℕ) (sets : List (List ℕ)) (p : Line) (i first past : ℕ) (out : List ℕ) (at : ℕ) : Type 0 where
+    pub good : sound (length sets) p ≡ true
+    pub some : first < past → isNone (p .count) ≡ false
+    pub order : first ≤ past
+    pub room : past ≤ places
+    pub below : Below (p .unit .size) (take (past - first) (drop first ch))
+    pub reach : at + length (text sets p first past) ≤ length out
+    pub next : {q : List ℕ} {m : ℕ} → Put out at (text sets p first past) q m → Left goal end (i + 1) past q m
+
+  pub started : (out : List ℕ) → Fits (unitsOf s n) chosen → length (strip (unitsOf s n) chosen) ≤ length out
+      → Left (putIn 0 (strip (unitsOf s n) chosen) out) (0 + length (strip (unitsOf s n) chosen)) 0 0 out 0
+  unfolding unitsOf
+  started out f l = record { few = zero-le; fits = f; rest = rest-start out (strip (unitsOf s n) chosen) 0 (omega arith) }
+
+  pub turn : {goal out : List ℕ} {end i first at : ℕ} (sets : List (List ℕ)) (p : Line) (past : ℕ) → length ch ≡ places → frees (unitsOf s n) ≤ places → Left goal end i first out at → i < length ps
+      → Describes (setsOf s) ps i p → sets ≡ setsOf s → past ≡ first + countIn (p .count) n → Turn goal end sets p i first past out at
+  turn {goal} {out} {end} {i} {first} {at} sets p past long enough l h d e q =
+      let o : length chosen ≡ frees (unitsOf s n) = length-take-le (frees (unitsOf s n)) ch (omega (arith, long)) in
+      let k : ℕ = countIn (p .count) n in
+      let c : drop i ps ≡ partIn sets p ∷ drop (i + 1) ps
+      = drop-cons ps i (close []) h ∙ rw (e, d .is, add-one i) in
+      let t = part-cut sets p n (drop (i + 1) ps) (drop first chosen) (rw c at (l .fits)) in
+      let g : length (drop first chosen) ≡ length chosen - first = length-drop first chosen in
+      let w : past - first ≡ k = omega arith in
+      let v : first + k ≤ frees (unitsOf s n) = omega (arith, t .0 .few, l .few) in
+      let y : take (past - first) (drop first ch) ≡ take k (drop first chosen) = rw w (sym (inside ch (frees (unitsOf s n)) first k v)) in
+      let z : drop k (drop first chosen) ≡ drop past chosen = drop-drop k first chosen ∙ rw q in
+      let f : strip (partUnits n (drop i ps)) (drop first chosen)
+      ≡ (strip (markIn (p .mark)) [] ++ laid (unitIn sets (p .unit)) (take k (drop first chosen))) ++ strip (partUnits n (drop (i + 1) ps)) (drop k (drop first chosen))
+      = rw c (t .1) in
+      let x : strip (partUnits n (drop i ps)) (drop first chosen) ≡ text sets p first past ++ strip (partUnits n (drop (i + 1) ps)) (drop past chosen)
+      = rw (y, ← z) f in
+      let r : Rest goal end out at (text sets p first past ++ strip (partUnits n (drop (i + 1) ps)) (drop past chosen)) = rw x at (l .rest) in
+      let a : length (text sets p first past ++ strip (partUnits n (drop (i + 1) ps)) (drop past chosen))
+      ≡ length (text sets p first past) + length (strip (partUnits n (drop (i + 1) ps)) (drop past chosen)) = length-append (text sets p first past) _ in
+      record {
+        good = rw e (d .good);
+        some = λ f. some-units (isNone (p .count)) refl f;
+        order = omega arith;
+        room = omega arith;
+        below = rw y (t .0 .below);
+        reach = omega (arith, r .ends, r .fits, r .long);
+        next = λ u. record { few = omega arith; fits = rw z at (t .0 .fits); rest = rest-put _ r u };
+      }
+    where
+      some-units : (b : Bool) → isNone (p .count) ≡ b → first < past → b ≡ false
+      some-units false f g = refl
+      some-units true f g = absurd (omega (arith, none-count (p .count) n f))
+
+  pub ended : (out : List ℕ) {q : List ℕ} {i first at : ℕ} → Left (putIn 0 (strip (unitsOf s n) chosen) out) (0 + length (strip (unitsOf s n) chosen)) i first q at
+      → length ps ≤ i → length (strip (unitsOf s n) chosen) ≤ length out → Put out 0 (strip (unitsOf s n) chosen) q at
+  ended out {q} {i} {first} {at} l h f =
+      let e : drop i ps ≡ [] = drop-of-length-le ps {i = i} h in
+      rest-end out (strip (unitsOf s n) chosen) 0 (rw e at (l .rest)) (omega arith)

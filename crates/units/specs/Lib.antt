@@ -1,2 +1,2 @@
-pub mod Room
+pub mod Units
 pub mod Laid

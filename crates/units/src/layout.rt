@@ -1,197 +1,173 @@
-// The strip of each symbology, built whole in the working room (document 01, "Two-width strips", "EAN and UPC strips").
-use super::room;
-use super::widths;
-use symbologies::sizes::LONGEST;
+// The strip, put part by part and unit by unit in lent room (document 01, "Two-width strips", "EAN and UPC strips").
+use super::choices;
+use super::writing;
+use shapes::parts;
+use shapes::parts::Mark;
+use shapes::parts::Part;
+use shapes::parts::Unit;
+use shapes::sets;
 use symbologies::sizes::PLACES;
 use words::ElementPlace;
 ghost use mathlib.Core.Path.{_≡_};
-ghost use mathlib.Core.Bool.{true};
-ghost use mathlib.Core.List.{_++_};
-ghost use Prim.Native.Nat.{_+_, _*_, _<_, _≤_};
+ghost use mathlib.Core.Bool.{true, false, _||_};
+ghost use mathlib.Core.List.{[], _∷_, _++_};
+ghost use Prim.Native.Nat.{_+_, _*_, _-_, _<_, _≤_};
+ghost use lib.Dec.{eqb};
 ghost use lib.ListN.{length, take, drop};
+ghost use Rattle.laws.specs.Units.{strip, frees, Fits};
+ghost use Rattle.laws.specs.Writing.{Put, front};
 ghost use Rattle.laws.proofs.Spelling.{Below};
-ghost use Rattle.symbologies.specs.Sizes.{places, longest};
-ghost use Rattle.symbologies.specs.Parts.{sided};
-ghost use Rattle.symbologies.specs.Strips.{elementsOf, stripOf, ready};
-ghost use Rattle.units.specs.Room.{Within, partedIn, sideAt, leftIn, rightIn, textEan};
+ghost use Rattle.symbologies.specs.Sizes.{places};
+ghost use Rattle.symbologies.specs.Strips.{unitsOf, stripOf, ready};
+ghost use Rattle.shapes.specs.Sets.{wordAt, setsOf};
+ghost use Rattle.shapes.specs.Described.{gapIn, markIn, rowIn, unitIn, isNone, sizeable, within, sound};
+ghost use Rattle.units.specs.Units.{laid};
 
-// Where start and stop stand in a text of rows, and how long they are; the start has its parting space.
-pub struct Ends {
-    pub start: usize,
-    pub long: usize,
-    pub stop: usize,
-    pub short: usize,
-}
-
-// A start, units of k elements, their parting space among them, a stop.
-fn parted(
-    room: &mut [u8; LONGEST],
-    text: &[u8],
-    k: usize,
-    ends: Ends,
-    codes: &[u8; PLACES],
-    n: usize,
-)
-    requires { ⌜ (length (now room) ≡ longest) × ((length (now codes) ≡ places) × ((n ≤ places) × (length (now text) ≤ 440))) ⌝ }
-    requires { ⌜ (ends .long + k * n + ends .short ≤ longest) × ((ends .start + ends .long ≤ length (now text)) × (ends .stop + ends .short ≤ length (now text))) ⌝ }
-    requires { ⌜ (0 < k) × Within (length (now text)) 0 k (take n (now codes)) ⌝ }
-    ensures { λ _. ⌜ length (now (room .exit)) ≡ longest ⌝ }
-    ensures { λ _. ⌜ take (ends .long + k * n + ends .short) (now (room .exit)) ≡ partedIn k ends (take n (now (codes .entry))) (now (text .entry)) ⌝ }
+// The parting space, if there is one, and the place behind it.
+fn put_gap(out: &mut [u8], place: ElementPlace, gap: bool) -> usize
+    requires { ⌜ place .0 + length (strip (gapIn gap) []) ≤ length (now out) ⌝ }
+    ensures { λ r. ⌜ Put (now (out .entry)) (place .0) (strip (gapIn gap) []) (now (out .exit)) r ⌝ }
 {
-    let a = room::put(room, ElementPlace(0), text, ends.start, ends.long);
-    let b = room::put_units(room, a, text, 0, k, codes, 0, n);
-    room::put(room, b, text, ends.stop, ends.short);
-}
-
-// A star, the characters, a star, with a narrow space between each two.
-fn code39(room: &mut [u8; LONGEST], codes: &[u8; PLACES], n: usize)
-    requires { ⌜ (length (now room) ≡ longest) × ((length (now codes) ≡ places) × ((n ≤ places) × (ready 1 (take n (now codes)) ≡ true))) ⌝ }
-    ensures { λ _. ⌜ length (now (room .exit)) ≡ longest ⌝ }
-    ensures { λ _. ⌜ take (elementsOf 1 n) (now (room .exit)) ≡ stripOf 1 (take n (now (codes .entry))) ⌝ }
-{
-    let text = widths::code39();
-    let ends = Ends {
-        start: 430,
-        long: 10,
-        stop: 430,
-        short: 9,
-    };
-    parted(room, &text, 10, ends, codes, n);
-}
-
-// The characters, which start and stop themselves, with a narrow space between each two.
-fn codabar(room: &mut [u8; LONGEST], codes: &[u8; PLACES], n: usize)
-    requires { ⌜ (length (now room) ≡ longest) × ((length (now codes) ≡ places) × ((n ≤ places) × (ready 3 (take n (now codes)) ≡ true))) ⌝ }
-    ensures { λ _. ⌜ length (now (room .exit)) ≡ longest ⌝ }
-    ensures { λ _. ⌜ take (elementsOf 3 n) (now (room .exit)) ≡ stripOf 3 (take n (now (codes .entry))) ⌝ }
-{
-    let text = widths::codabar();
-    let last = codes[n - 1] as usize;
-    let a = room::put_units(room, ElementPlace(0), &text, 0, 8, codes, 0, n - 1);
-    room::put(room, a, &text, 8 * last, 7);
-}
-
-// The start, the digits, the stop, with a narrow space between each two.
-fn industrial(room: &mut [u8; LONGEST], codes: &[u8; PLACES], n: usize)
-    requires { ⌜ (length (now room) ≡ longest) × ((length (now codes) ≡ places) × ((n ≤ places) × (ready 4 (take n (now codes)) ≡ true))) ⌝ }
-    ensures { λ _. ⌜ length (now (room .exit)) ≡ longest ⌝ }
-    ensures { λ _. ⌜ take (elementsOf 4 n) (now (room .exit)) ≡ stripOf 4 (take n (now (codes .entry))) ⌝ }
-{
-    let text = widths::industrial();
-    let ends = Ends {
-        start: 100,
-        long: 6,
-        stop: 106,
-        short: 5,
-    };
-    parted(room, &text, 10, ends, codes, n);
-}
-
-// The start, the pairs, the stop.
-fn interleaved(room: &mut [u8; LONGEST], codes: &[u8; PLACES], n: usize)
-    requires { ⌜ (length (now room) ≡ longest) × ((length (now codes) ≡ places) × ((n ≤ places) × (ready 5 (take n (now codes)) ≡ true))) ⌝ }
-    ensures { λ _. ⌜ length (now (room .exit)) ≡ longest ⌝ }
-    ensures { λ _. ⌜ take (elementsOf 5 n) (now (room .exit)) ≡ stripOf 5 (take n (now (codes .entry))) ⌝ }
-{
-    let text = widths::interleaved();
-    let a = room::put(room, ElementPlace(0), &text, 50, 4);
-    let b = room::put_pairs(room, a, &text, codes, n / 2);
-    room::put(room, b, &text, 54, 3);
-}
-
-// The start, the digits, the stop, with a narrow space between each two.
-fn matrix(room: &mut [u8; LONGEST], codes: &[u8; PLACES], n: usize)
-    requires { ⌜ (length (now room) ≡ longest) × ((length (now codes) ≡ places) × ((n ≤ places) × (ready 6 (take n (now codes)) ≡ true))) ⌝ }
-    ensures { λ _. ⌜ length (now (room .exit)) ≡ longest ⌝ }
-    ensures { λ _. ⌜ take (elementsOf 6 n) (now (room .exit)) ≡ stripOf 6 (take n (now (codes .entry))) ⌝ }
-{
-    let text = widths::matrix();
-    let ends = Ends {
-        start: 60,
-        long: 6,
-        stop: 60,
-        short: 5,
-    };
-    parted(room, &text, 6, ends, codes, n);
-}
-
-// The set that EAN-13's unit i comes from, by the parities: 0 is odd, 1 is even; the right units have one set.
-fn side(parities: u16, i: usize) -> u8
-    ensures { λ r. ⌜ r ≡ sideAt parities i ⌝ }
-{
-    if i < 6 {
-        ((parities >> (5 - i)) % 2) as u8
+    let at = place.0;
+    if gap {
+        out[at] = 1;
+        at + 1
     } else {
-        0
+        at
     }
 }
 
-// The twelve units that EAN-13 draws: its first digit stands in the sets of the six left ones.
-fn sides_of(codes: &[u8; PLACES]) -> [u8; PLACES]
-    requires { ⌜ (length (now codes) ≡ places) × Below 10 (take 13 (now codes)) ⌝ }
-    ensures { λ r. ⌜ take 12 r ≡ sided (take 13 (now (codes .entry))) ⌝ }
+// A mark; one of no elements is none.
+fn put_mark(out: &mut [u8], place: ElementPlace, mark: Mark) -> ElementPlace
+    requires { ⌜ (eqb (mark .elements) 0 || sizeable 9 (mark .elements)) ≡ true ⌝ }
+    requires { ⌜ place .0 + length (strip (markIn mark) []) ≤ length (now out) ⌝ }
+    ensures { λ r. ⌜ Put (now (out .entry)) (place .0) (strip (markIn mark) []) (now (out .exit)) (r .0) ⌝ }
 {
-    let parities = tables::ean::parities_of(codes[0]);
-    let mut sides = [0; PLACES];
-    let mut i = 0;
-    while i < 12 {
-        sides[i] = 10 * side(parities, i) + codes[i + 1];
+    let k = mark.elements;
+    if k == 0 {
+        return place;
+    }
+    let at = put_gap(out, place, mark.gap);
+    writing::put_row(out, at, k, mark.word);
+    ElementPlace(at + k)
+}
+
+// The word of row c, counted through the sets from one on.
+fn word_at(sets: &[[u64; 10]], set: usize, c: usize) -> u64
+    requires { ⌜ 10 * set + c < 10 * length (now sets) ⌝ }
+    ensures { λ r. ⌜ r ≡ wordAt (now (sets .entry)) set c ⌝ }
+{
+    sets[set + c / 10][c % 10]
+}
+
+// The row that a unit shows for choice c, or the pair.
+fn put_shown(out: &mut [u8], at: usize, sets: &[[u64; 10]], unit: Unit, c: usize)
+    requires { ⌜ (sizeable 10 (unit .elements) ≡ true) × ((within (length (now sets)) unit ≡ true) × (c < unit .size)) ⌝ }
+    requires { ⌜ at + unit .elements ≤ length (now out) ⌝ }
+    ensures { λ _. ⌜ Put (now (out .entry)) at (rowIn (now (sets .entry)) unit c) (now (out .exit)) (at + unit .elements) ⌝ }
+{
+    let k = unit.elements;
+    if k < 10 {
+        writing::put_row(out, at, k, word_at(sets, unit.set, c));
+    } else {
+        writing::put_pair(
+            out,
+            at,
+            word_at(sets, unit.set, c / 10),
+            word_at(sets, unit.set, c % 10),
+        );
+    }
+}
+
+// The unit that shows row c.
+fn put_unit(
+    out: &mut [u8],
+    place: ElementPlace,
+    sets: &[[u64; 10]],
+    unit: Unit,
+    c: u8,
+) -> ElementPlace
+    requires { ⌜ (sizeable 10 (unit .elements) ≡ true) × ((within (length (now sets)) unit ≡ true) × (c < unit .size)) ⌝ }
+    requires { ⌜ place .0 + length (strip (unitIn (now sets) unit) (c ∷ [])) ≤ length (now out) ⌝ }
+    ensures { λ r. ⌜ Put (now (out .entry)) (place .0) (strip (unitIn (now (sets .entry)) unit) (c ∷ [])) (now (out .exit)) (r .0) ⌝ }
+{
+    let at = put_gap(out, place, unit.gap);
+    put_shown(out, at, sets, unit, c as usize);
+    ElementPlace(at + unit.elements)
+}
+
+// A part: its mark, then a unit for each choice from one index to before another.
+fn put_part(
+    out: &mut [u8],
+    from: ElementPlace,
+    sets: &[[u64; 10]],
+    part: Part,
+    choices: &[u8; PLACES],
+    first: usize,
+    past: usize,
+) -> ElementPlace
+    requires { ⌜ (sound (length (now sets)) part ≡ true) × (first < past → isNone (part .count) ≡ false) ⌝ }
+    requires { ⌜ (length (now choices) ≡ places) × ((first ≤ past) × ((past ≤ places) × Below (part .unit .size) (take (past - first) (drop first (now choices))))) ⌝ }
+    requires { ⌜ from .0 + length (strip (markIn (part .mark)) [] ++ laid (unitIn (now sets) (part .unit)) (take (past - first) (drop first (now choices)))) ≤ length (now out) ⌝ }
+    ensures { λ r. ⌜ Put (now (out .entry)) (from .0) (strip (markIn (part .mark)) [] ++ laid (unitIn (now (sets .entry)) (part .unit)) (take (past - first) (drop first (now (choices .entry))))) (now (out .exit)) (r .0) ⌝ }
+{
+    let unit = part.unit;
+    let mut at = put_mark(out, from, part.mark);
+    let mut i = first;
+    while i < past {
+        at = put_unit(out, at, sets, unit, choices[i]);
         i += 1;
     }
-    sides
+    at
 }
 
-// A guard, half the units, the centre.
-fn left(room: &mut [u8; LONGEST], text: &[u8], codes: &[u8; PLACES], half: usize) -> ElementPlace
-    requires { ⌜ (length (now room) ≡ longest) × ((length (now codes) ≡ places) × ((length (now text) ≡ 128) × ((half ≤ 6) × Below 20 (take half (now codes))))) ⌝ }
-    ensures { λ r. ⌜ r .0 ≡ 4 * half + 8 ⌝ }
-    ensures { λ _. ⌜ length (now (room .exit)) ≡ longest ⌝ }
-    ensures { λ _. ⌜ take (4 * half + 8) (now (room .exit)) ≡ leftIn (now (text .entry)) (take half (now (codes .entry))) ⌝ }
+// The parts of a strip of n characters, one behind the other.
+fn put_parts(out: &mut [u8], sets: &[[u64; 10]], symbology: u8, choices: &[u8; PLACES], n: usize)
+    requires { ⌜ (now sets ≡ setsOf symbology) × ((length (now choices) ≡ places) × (frees (unitsOf symbology n) ≤ places)) ⌝ }
+    requires { ⌜ Fits (unitsOf symbology n) (take (frees (unitsOf symbology n)) (now choices)) ⌝ }
+    requires { ⌜ length (strip (unitsOf symbology n) (take (frees (unitsOf symbology n)) (now choices))) ≤ length (now out) ⌝ }
+    ensures { λ _. ⌜ now (out .exit) ≡ front (strip (unitsOf symbology n) (take (frees (unitsOf symbology n)) (now (choices .entry)))) (now (out .entry)) ⌝ }
 {
-    let a = room::put(room, ElementPlace(0), text, 120, 3);
-    let b = room::put_units(room, a, text, 0, 4, codes, 0, half);
-    room::put(room, b, text, 123, 5)
+    let all = parts::part_count(symbology);
+    let mut at = ElementPlace(0);
+    let mut first = 0;
+    let mut i = 0;
+    while i < all {
+        let part = parts::part_of(symbology, i);
+        let count = part.count;
+        let past = first + parts::count_in(count, n);
+        at = put_part(out, at, sets, part, choices, first, past);
+        first = past;
+        i += 1;
+    }
 }
 
-// The other half from the right set, a guard.
-fn right(room: &mut [u8; LONGEST], at: ElementPlace, text: &[u8], codes: &[u8; PLACES], half: usize)
-    requires { ⌜ (length (now room) ≡ longest) × ((length (now codes) ≡ places) × ((length (now text) ≡ 128) × ((half ≤ 6) × Below 10 (take half (drop half (now codes)))))) ⌝ }
-    requires { ⌜ at .0 ≤ 32 ⌝ }
-    ensures { λ _. ⌜ length (now (room .exit)) ≡ longest ⌝ }
-    ensures { λ _. ⌜ take (at .0 + (4 * half + 3)) (now (room .exit)) ≡ take (at .0) (now (room .entry)) ++ rightIn (now (text .entry)) (take half (drop half (now (codes .entry)))) ⌝ }
-{
-    let a = room::put_units(room, at, text, 80, 4, codes, half, half);
-    room::put(room, a, text, 120, 3);
-}
-
-// The units in two halves, between guards and on both sides of the centre.
-fn halves(room: &mut [u8; LONGEST], codes: &[u8; PLACES], half: usize)
-    requires { ⌜ (length (now room) ≡ longest) × ((length (now codes) ≡ places) × ((half ≤ 6) × ((Below 20 (take half (now codes))) × (Below 10 (take half (drop half (now codes))))))) ⌝ }
-    ensures { λ _. ⌜ length (now (room .exit)) ≡ longest ⌝ }
-    ensures { λ _. ⌜ take (8 * half + 11) (now (room .exit)) ≡ leftIn textEan (take half (now (codes .entry))) ++ rightIn textEan (take half (drop half (now (codes .entry)))) ⌝ }
-{
-    let text = widths::ean();
-    let a = left(room, &text, codes, half);
-    right(room, a, &text, codes, half);
-}
-
-// The strip of n characters.
-pub fn build(room: &mut [u8; LONGEST], symbology: u8, codes: &[u8; PLACES], n: usize)
-    requires { ⌜ (length (now room) ≡ longest) × ((length (now codes) ≡ places) × ((n ≤ places) × (ready symbology (take n (now codes)) ≡ true))) ⌝ }
-    ensures { λ _. ⌜ length (now (room .exit)) ≡ longest ⌝ }
-    ensures { λ _. ⌜ take (elementsOf symbology n) (now (room .exit)) ≡ stripOf symbology (take n (now (codes .entry))) ⌝ }
+// The strip of n characters, by the sets of its symbology and the row that each unit shows.
+pub fn build(out: &mut [u8], symbology: u8, codes: &[u8; PLACES], n: usize)
+    requires { ⌜ (length (now codes) ≡ places) × ((n ≤ places) × (ready symbology (take n (now codes)) ≡ true)) ⌝ }
+    requires { ⌜ length (stripOf symbology (take n (now codes))) ≤ length (now out) ⌝ }
+    ensures { λ _. ⌜ now (out .exit) ≡ front (stripOf symbology (take n (now (codes .entry)))) (now (out .entry)) ⌝ }
 {
     match symbology {
-        1 | 2 => code39(room, codes, n),
-        3 => codabar(room, codes, n),
-        4 => industrial(room, codes, n),
-        5 => interleaved(room, codes, n),
-        6 => matrix(room, codes, n),
-        7 => {
-            let sides = sides_of(codes);
-            halves(room, &sides, 6)
-        }
-        8 => halves(room, codes, 4),
-        _ => halves(room, codes, 6),
+        1 => put_parts(out, &sets::code39(), symbology, codes, n),
+        2 => put_parts(out, &sets::code39(), symbology, codes, n),
+        3 => put_parts(
+            out,
+            &sets::codabar(),
+            symbology,
+            &choices::lettered(codes, n),
+            n,
+        ),
+        4 => put_parts(out, &sets::industrial(), symbology, codes, n),
+        5 => put_parts(
+            out,
+            &sets::digits(),
+            symbology,
+            &choices::paired(codes, n),
+            n,
+        ),
+        6 => put_parts(out, &sets::digits(), symbology, codes, n),
+        7 => put_parts(out, &sets::ean(), symbology, &choices::sided(codes), n),
+        _ => put_parts(out, &sets::ean(), symbology, codes, n),
     }
 }

@@ -4,19 +4,23 @@
 // `draw_row` lays the drawn characters out as elements, bar first, in a working room of `LONGEST` and copies them to the lent buffer.
 // The strip is `stripOf` (symbologies, specs/Strips.antt): the parts of the symbology drawn with the row of each character. Its numbers
 // of elements and modules are document 01's formulas, and they are the strip's length and sum (symbologies, proofs/Totals.antt).
-mod check;
+//
+//   writing    a row put at a place
+//   choices    which row each unit shows
+//   layout     the parts, by their description (crate shapes)
+mod choices;
 mod layout;
-mod room;
-mod widths;
+mod writing;
 
 use symbologies::lengths;
 use symbologies::row::Row;
 use symbologies::sizes::LONGEST;
-use symbologies::sizes::PLACES;
 use words::Elements;
 use words::Modules;
 ghost use mathlib.Core.Path.{_≡_};
+ghost use mathlib.Core.Bool.{true};
 ghost use lib.ListN.{length};
+ghost use Rattle.symbologies.specs.Strips.{ready};
 ghost use Rattle.units.specs.Laid.{charsOf, laidOf, laidIn};
 
 // What became of a row.
@@ -25,23 +29,16 @@ pub enum Laid {
     Strip(Elements, Modules),
     // The lent buffer is too short: so many elements are needed.
     Short(Elements),
-    // No row of the symbology: its count, or a character, is not one that is drawn there.
-    NoRow,
 }
 
-// The strip of a row, in the lent buffer.
+// The strip of a row of its symbology, in the lent buffer.
 pub fn draw_row(symbology: u8, row: Row, out: &mut [u8]) -> Laid
+    requires { ⌜ ready symbology (charsOf row) ≡ true ⌝ }
     ensures { λ r. ⌜ r ≡ laidOf symbology (charsOf row) (length (now (out .entry))) ⌝ }
     ensures { λ _. ⌜ now (out .exit) ≡ laidIn symbology (charsOf row) (now (out .entry)) ⌝ }
 {
     let n = row.len;
-    if PLACES < n {
-        return Laid::NoRow;
-    }
     let codes = row.codes;
-    if !check::is_ready(symbology, &codes, n) {
-        return Laid::NoRow;
-    }
     let count = lengths::elements_of(symbology, n);
     if out.len() < count {
         return Laid::Short(Elements(count));

@@ -3,8 +3,9 @@
 use mathlib.Core.List.{[], _∷_, _++_}
 use native.Mathlib.Omega.{arith}
 use borrow.Author.Needs.{needs}
-use Rattle.jobs.specs.Text.{decimal, Put}
-use Rattle.jobs.proofs.Putting.{then, same-text}
+use Rattle.laws.specs.Writing.{Put}
+use Rattle.jobs.specs.Text.{decimal}
+use Rattle.laws.proofs.Writing.{then, same-text}
 use Rattle.jobs.proofs.Texts.{said-text}
 use Rattle.jobs.proofs.lines.put_said.Statement.{statement}
 use Rattle.jobs.proofs.lines.put_said.Tie as tie

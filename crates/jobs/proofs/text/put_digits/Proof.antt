@@ -6,7 +6,8 @@ use Prim.Native.Nat.{_+_, _≤_}
 use native.Mathlib.Omega.{arith}
 use lib.ListN.{length, take, drop, length-set}
 use borrow.Author.Needs.{needs}
-use Rattle.jobs.specs.Text.{decimal, putIn}
+use Rattle.laws.specs.Writing.{putIn}
+use Rattle.jobs.specs.Text.{decimal}
 use Rattle.jobs.proofs.Digits.{fixed}
 use Rattle.jobs.proofs.Putting.{digits-start, digits-more, digits-end}
 use Rattle.jobs.proofs.text.put_digits.Statement.{statement}

@@ -1,144 +1,187 @@
--- `build`: each arm's strip is its symbology's; where none is named, the row is not ready unless it is UPC-A's.
+-- `build`: by its number each symbology has its sets and its choices.
 -- Assumes nothing.
-use mathlib.Core.Path.{_≡_, sym, ap, _∙_}
-use mathlib.Core.Logic.{_⊎_, inl, inr}
-use mathlib.Core.Bool.{true}
-use mathlib.Core.List.{List, [], _∷_, _++_}
-use Prim.Native.Nat.{ℕ, _+_, _*_, _<_, _≤_}
+use mathlib.Core.Path.{_≡_, refl, sym, _∙_}
+use Prim.Native.Nat.{_/_, _≤_}
 use native.Mathlib.Omega.{arith}
 use lib.Dec.{lit≤}
-use lib.ListN.{length, take, drop}
+use lib.ListN.{length}
 use borrow.Author.Needs.{needs}
-use Rattle.laws.proofs.Arms.{Off}
 use Rattle.symbologies.specs.Sizes.{places}
-use Rattle.symbologies.specs.Strips.{elementsOf, stripOf, ready}
-use Rattle.symbologies.proofs.Counted.{known}
-use Rattle.units.specs.Room.{leftIn, rightIn, textEan}
-use Rattle.units.proofs.Given.{count, Either39, either39}
-use Rattle.units.proofs.Sides.{Halves, digits13, halves13, halves8, halves12}
+use Rattle.units.proofs.Built.{lines, by-line, built, number-counted, letters, digits5, digits13, last}
 use Rattle.units.proofs.layout.build.Statement.{statement}
 use Rattle.units.proofs.layout.build.Tie as tie
 
--- the row, where the number is known
-ready-as : (s k : ℕ) (r : List ℕ) → s ≡ k → ready s r ≡ true → ready k r ≡ true
-ready-as s k r q e = rw q at e
+put-parts-requires : tie.Need-put-parts-requires
+put-parts-requires c κs =
+    let s = c .before .before .before .before .before in
+    let a = s .args in
+    (by-line (a .symbology) (a .n) (a .codes .now) (s .pre .0 .0) (s .pre .0 .1 .0) (s .pre .0 .1 .1) (lines .0) (c .before .before .before .match .keys1) (a .n) (a .codes .now) _ (a .out .now) (s .pre .1) (c .before .code39 .ensures) (s .pre .0 .0) (s .pre .0 .1 .0) refl) .asks
 
-known-as : (s k n : ℕ) (r room : List ℕ) → s ≡ k → take (elementsOf k n) room ≡ stripOf k r → take (elementsOf s n) room ≡ stripOf s r
-known-as s k n r room q e = rw q e
+returns : tie.Need-returns
+returns c =
+    let s = c .before .before .before .before .before .before .before .before in
+    let a = s .args in
+    (by-line (a .symbology) (a .n) (a .codes .now) (s .pre .0 .0) (s .pre .0 .1 .0) (s .pre .0 .1 .1) (lines .0) (c .before .before .before .before .before .before .match .keys1) (a .n) (a .codes .now) _ (a .out .now) (s .pre .1) (c .before .before .before .before .code39 .ensures) (s .pre .0 .0) (s .pre .0 .1 .0) refl) .gives (c .before .before .put-parts .ensures)
 
--- two halves
-twice : (s k n half : ℕ) (r units room : List ℕ) → s ≡ k → Halves k n half r units
-    → take (8 * half + 11) room ≡ leftIn textEan (take half units) ++ rightIn textEan (take half (drop half units)) → take (elementsOf s n) room ≡ stripOf s r
-twice s k n half r units room q h e = known-as s k n r room q (ap (λ (m : ℕ). take m room) (h .elements) ∙ e ∙ sym (h .is))
+put-parts-requires-2 : tie.Need-put-parts-requires-2
+put-parts-requires-2 c κs =
+    let s = c .before .before .before .before .before in
+    let a = s .args in
+    (by-line (a .symbology) (a .n) (a .codes .now) (s .pre .0 .0) (s .pre .0 .1 .0) (s .pre .0 .1 .1) (lines .1 .0) (c .before .before .before .match .keys2) (a .n) (a .codes .now) _ (a .out .now) (s .pre .1) (c .before .code392 .ensures) (s .pre .0 .0) (s .pre .0 .1 .0) refl) .asks
 
--- past the other arms only 9 is left
-nine : (s n : ℕ) (codes : List ℕ) → n ≤ length codes → ready s (take n codes) ≡ true → Off (8 ∷ 7 ∷ 6 ∷ 5 ∷ 4 ∷ 3 ∷ []) s → 3 ≤ s → s ≡ 9
-nine s n codes l e o h = omega (arith, known s n (count s codes n l e), o .1, o .0 .1, o .0 .0 .1, o .0 .0 .0 .1, o .0 .0 .0 .0 .1, o .0 .0 .0 .0 .0 .1)
+returns-2 : tie.Need-returns-2
+returns-2 c =
+    let s = c .before .before .before .before .before .before .before .before in
+    let a = s .args in
+    (by-line (a .symbology) (a .n) (a .codes .now) (s .pre .0 .0) (s .pre .0 .1 .0) (s .pre .0 .1 .1) (lines .1 .0) (c .before .before .before .before .before .before .match .keys2) (a .n) (a .codes .now) _ (a .out .now) (s .pre .1) (c .before .before .before .before .code392 .ensures) (s .pre .0 .0) (s .pre .0 .1 .0) refl) .gives (c .before .before .put-parts2 .ensures)
 
-none : (s n : ℕ) (codes : List ℕ) → n ≤ length codes → ready s (take n codes) ≡ true → s < 1 → s ≡ 9
-none s n codes l e h = absurd (omega (arith, known s n (count s codes n l e)))
+lettered-requires : tie.Need-lettered-requires
+lettered-requires c κs =
+    let s = c .before .before .before .before .before in
+    let a = s .args in
+    let z = letters (a .n) (a .codes .now) (s .pre .0 .0) (s .pre .0 .1 .0) (rw (c .before .before .before .match .keys3) at (s .pre .0 .1 .1)) in
+    (s .pre .0 .0, (omega (arith, z .0), (s .pre .0 .1 .0, z .1)))
 
-either : {A B C : Type 0} → (A → C) → (B → C) → A ⊎ B → C
-either f g (inl a) = f a
-either f g (inr b) = g b
+put-parts-requires-3 : tie.Need-put-parts-requires-3
+put-parts-requires-3 c κs =
+    let s = c .before .before .before .before .before .before .before in
+    let a = s .args in
+    let long : length (c .before .lettered .result) ≡ places = search needs in
+    (by-line (a .symbology) (a .n) (a .codes .now) (s .pre .0 .0) (s .pre .0 .1 .0) (s .pre .0 .1 .1) (lines .1 .1 .0) (c .before .before .before .before .before .match .keys3) (a .n) _ _ (a .out .now) (s .pre .1) (c .before .before .before .codabar .ensures) long (s .pre .0 .1 .0) (c .before .lettered .ensures)) .asks
 
-halves-requires : tie.Need-halves-requires
-halves-requires c κs =
-    let a = c .before .before .before .before in
-    let long : length (c .before .before .sides-of .result) ≡ places = search needs in
-    let h : Halves 7 (a .args .n) 6 (take (a .args .n) (a .args .codes .now)) (c .before .before .sides-of .result)
-    = halves13 (a .args .codes .now) (c .before .before .sides-of .result) (a .args .n) (search needs) (omega arith)
-    (ready-as (a .args .symbology) 7 (take (a .args .n) (a .args .codes .now)) (c .before .before .before .match .keys5) (a .pre .1 .1 .1)) (c .before .before .sides-of .ensures) in
-    (a .pre .0, (long, (lit≤ tt, (h .left, h .right))))
+returns-3 : tie.Need-returns-3
+returns-3 c =
+    let s = c .before .before .before .before .before .before .before .before .before .before in
+    let a = s .args in
+    let long : length (c .before .before .before .before .lettered .result) ≡ places = search needs in
+    (by-line (a .symbology) (a .n) (a .codes .now) (s .pre .0 .0) (s .pre .0 .1 .0) (s .pre .0 .1 .1) (lines .1 .1 .0) (c .before .before .before .before .before .before .before .before .match .keys3) (a .n) _ _ (a .out .now) (s .pre .1) (c .before .before .before .before .before .before .codabar .ensures) long (s .pre .0 .1 .0) (c .before .before .before .before .lettered .ensures)) .gives (c .before .before .put-parts3 .ensures)
 
-halves-requires-2 : tie.Need-halves-requires-2
-halves-requires-2 c κs =
-    let a = c .before .before in
-    let h : Halves 8 (a .args .n) 4 (take (a .args .n) (a .args .codes .now)) (a .args .codes .now)
-    = halves8 (a .args .codes .now) (a .args .n) (search needs)
-    (ready-as (a .args .symbology) 8 (take (a .args .n) (a .args .codes .now)) (c .before .match .keys6) (a .pre .1 .1 .1)) in
-    (a .pre .0, (a .pre .1 .0, (lit≤ tt, (h .left, h .right))))
+put-parts-requires-4 : tie.Need-put-parts-requires-4
+put-parts-requires-4 c κs =
+    let s = c .before .before .before .before .before in
+    let a = s .args in
+    (by-line (a .symbology) (a .n) (a .codes .now) (s .pre .0 .0) (s .pre .0 .1 .0) (s .pre .0 .1 .1) (lines .1 .1 .1 .0) (c .before .before .before .match .keys4) (a .n) (a .codes .now) _ (a .out .now) (s .pre .1) (c .before .industrial .ensures) (s .pre .0 .0) (s .pre .0 .1 .0) refl) .asks
 
-code39-requires : tie.Need-code39-requires
-code39-requires c κs =
-    let a = c .before .before .before .before in (
-      a .pre .0,
-      (
-        a .pre .1 .0,
-        (
-          a .pre .1 .1 .0,
-          either39 (a .args .n) (take (a .args .n) (a .args .codes .now)) (a .args .symbology) (c .before .before .if1 .left) (c .before .if2 .taken) .ready39 (a .pre .1 .1 .1),
-        ),
-      ),
-    )
+returns-4 : tie.Need-returns-4
+returns-4 c =
+    let s = c .before .before .before .before .before .before .before .before in
+    let a = s .args in
+    (by-line (a .symbology) (a .n) (a .codes .now) (s .pre .0 .0) (s .pre .0 .1 .0) (s .pre .0 .1 .1) (lines .1 .1 .1 .0) (c .before .before .before .before .before .before .match .keys4) (a .n) (a .codes .now) _ (a .out .now) (s .pre .1) (c .before .before .before .before .industrial .ensures) (s .pre .0 .0) (s .pre .0 .1 .0) refl) .gives (c .before .before .put-parts4 .ensures)
 
-halves-requires-3 : tie.Need-halves-requires-3
-halves-requires-3 c κs =
-    let a = c .before .before .before in
-    let nine : a .args .symbology ≡ 9
-    = either (λ h. none (a .args .symbology) (a .args .n) (a .args .codes .now) (search needs) (a .pre .1 .1 .1) (h .taken))
-    (λ h. nine (a .args .symbology) (a .args .n) (a .args .codes .now) (search needs) (a .pre .1 .1 .1) (c .before .before .match .rest) (h .1 .left)) (c .before .if1 .came) in
-    let h : Halves 9 (a .args .n) 6 (take (a .args .n) (a .args .codes .now)) (a .args .codes .now)
-    = halves12 (a .args .codes .now) (a .args .n) (search needs) (ready-as (a .args .symbology) 9 (take (a .args .n) (a .args .codes .now)) nine (a .pre .1 .1 .1)) in
-    (a .pre .0, (a .pre .1 .0, (lit≤ tt, (h .left, h .right))))
+paired-requires : tie.Need-paired-requires
+paired-requires c κs =
+    let s = c .before .before .before .before .before in
+    let a = s .args in
+    (s .pre .0 .0, (s .pre .0 .1 .0, digits5 _ (rw (c .before .before .before .match .keys5) at (s .pre .0 .1 .1))))
+
+put-parts-requires-5 : tie.Need-put-parts-requires-5
+put-parts-requires-5 c κs =
+    let s = c .before .before .before .before .before .before .before in
+    let a = s .args in
+    let long : length (c .before .paired .result) ≡ places = search needs in
+    (by-line (a .symbology) (a .n) (a .codes .now) (s .pre .0 .0) (s .pre .0 .1 .0) (s .pre .0 .1 .1) (lines .1 .1 .1 .1 .0) (c .before .before .before .before .before .match .keys5) (a .n / 2) _ _ (a .out .now) (s .pre .1) (c .before .before .before .digits .ensures) long (omega (arith, s .pre .0 .1 .0)) (c .before .paired .ensures)) .asks
 
 returns-5 : tie.Need-returns-5
 returns-5 c =
-    let a = c .before .before .before .before .before in
-    let long : length (c .before .before .before .sides-of .result) ≡ places = search needs in (
-      c .halves .ensures .0,
-      twice (a .args .symbology) 7 (a .args .n) 6 (take (a .args .n) (a .args .codes .now)) (c .before .before .before .sides-of .result) (c .halves .last .0) (c .before .before .before .before .match .keys5)
-          (halves13 (a .args .codes .now) (c .before .before .before .sides-of .result) (a .args .n) (search needs) (omega arith)
-          (ready-as (a .args .symbology) 7 (take (a .args .n) (a .args .codes .now)) (c .before .before .before .before .match .keys5) (a .pre .1 .1 .1)) (c .before .before .before .sides-of .ensures)) (c .halves .ensures .1),
-    )
+    let s = c .before .before .before .before .before .before .before .before .before .before in
+    let a = s .args in
+    let long : length (c .before .before .before .before .paired .result) ≡ places = search needs in
+    (by-line (a .symbology) (a .n) (a .codes .now) (s .pre .0 .0) (s .pre .0 .1 .0) (s .pre .0 .1 .1) (lines .1 .1 .1 .1 .0) (c .before .before .before .before .before .before .before .before .match .keys5) (a .n / 2) _ _ (a .out .now) (s .pre .1) (c .before .before .before .before .before .before .digits .ensures) long (omega (arith, s .pre .0 .1 .0)) (c .before .before .before .before .paired .ensures)) .gives (c .before .before .put-parts5 .ensures)
+
+put-parts-requires-6 : tie.Need-put-parts-requires-6
+put-parts-requires-6 c κs =
+    let s = c .before .before .before .before .before in
+    let a = s .args in
+    (by-line (a .symbology) (a .n) (a .codes .now) (s .pre .0 .0) (s .pre .0 .1 .0) (s .pre .0 .1 .1) (lines .1 .1 .1 .1 .1 .0) (c .before .before .before .match .keys6) (a .n) (a .codes .now) _ (a .out .now) (s .pre .1) (c .before .digits2 .ensures) (s .pre .0 .0) (s .pre .0 .1 .0) refl) .asks
 
 returns-6 : tie.Need-returns-6
 returns-6 c =
-    let a = c .before .before .before in (
-      c .halves2 .ensures .0,
-      twice (a .args .symbology) 8 (a .args .n) 4 (take (a .args .n) (a .args .codes .now)) (a .args .codes .now) (c .halves2 .last .0) (c .before .before .match .keys6)
-          (halves8 (a .args .codes .now) (a .args .n) (search needs)
-          (ready-as (a .args .symbology) 8 (take (a .args .n) (a .args .codes .now)) (c .before .before .match .keys6) (a .pre .1 .1 .1))) (c .halves2 .ensures .1),
-    )
+    let s = c .before .before .before .before .before .before .before .before in
+    let a = s .args in
+    (by-line (a .symbology) (a .n) (a .codes .now) (s .pre .0 .0) (s .pre .0 .1 .0) (s .pre .0 .1 .1) (lines .1 .1 .1 .1 .1 .0) (c .before .before .before .before .before .before .match .keys6) (a .n) (a .codes .now) _ (a .out .now) (s .pre .1) (c .before .before .before .before .digits2 .ensures) (s .pre .0 .0) (s .pre .0 .1 .0) refl) .gives (c .before .before .put-parts6 .ensures)
+
+sided-requires : tie.Need-sided-requires
+sided-requires c κs =
+    let s = c .before .before .before .before .before in
+    let a = s .args in
+    (s .pre .0 .0, digits13 (a .n) (a .codes .now) (s .pre .0 .0) (s .pre .0 .1 .0) (rw (c .before .before .before .match .keys7) at (s .pre .0 .1 .1)) .1)
+
+put-parts-requires-7 : tie.Need-put-parts-requires-7
+put-parts-requires-7 c κs =
+    let s = c .before .before .before .before .before .before .before in
+    let a = s .args in
+    let long : length (c .before .sided .result) ≡ places = search needs in
+    let z = digits13 (a .n) (a .codes .now) (s .pre .0 .0) (s .pre .0 .1 .0) (rw (c .before .before .before .before .before .match .keys7) at (s .pre .0 .1 .1)) in
+    (by-line (a .symbology) (a .n) (a .codes .now) (s .pre .0 .0) (s .pre .0 .1 .0) (s .pre .0 .1 .1) (lines .1 .1 .1 .1 .1 .1) (c .before .before .before .before .before .match .keys7) 12 (c .before .sided .result) _ (a .out .now) (s .pre .1) (c .before .before .before .ean .ensures) long (lit≤ tt) (rw (z .0) (c .before .sided .ensures))) .asks
 
 returns-7 : tie.Need-returns-7
 returns-7 c =
-    let a = c .before .before .before .before .before in
-    let e : Either39 (a .args .symbology) (a .args .n) (take (a .args .n) (a .args .codes .now))
-    = either39 (a .args .n) (take (a .args .n) (a .args .codes .now)) (a .args .symbology) (c .before .before .before .if1 .left) (c .before .before .if2 .taken) in (
-      c .code39 .ensures .0,
-      ap (λ (m : ℕ). take m (c .code39 .last .0)) (e .elements39) ∙ c .code39 .ensures .1 ∙ e .strip39,
-    )
+    let s = c .before .before .before .before .before .before .before .before .before .before in
+    let a = s .args in
+    let long : length (c .before .before .before .before .sided .result) ≡ places = search needs in
+    let z = digits13 (a .n) (a .codes .now) (s .pre .0 .0) (s .pre .0 .1 .0) (rw (c .before .before .before .before .before .before .before .before .match .keys7) at (s .pre .0 .1 .1)) in
+    (by-line (a .symbology) (a .n) (a .codes .now) (s .pre .0 .0) (s .pre .0 .1 .0) (s .pre .0 .1 .1) (lines .1 .1 .1 .1 .1 .1) (c .before .before .before .before .before .before .before .before .match .keys7) 12 (c .before .before .before .before .sided .result) _ (a .out .now) (s .pre .1) (c .before .before .before .before .before .before .ean .ensures) long (lit≤ tt) (rw (z .0) (c .before .before .before .before .sided .ensures))) .gives (c .before .before .put-parts7 .ensures)
+
+put-parts-requires-8 : tie.Need-put-parts-requires-8
+put-parts-requires-8 c κs =
+    let s = c .before .before .before .before .before in
+    let a = s .args in
+    let k = c .before .before .before .match .rest in
+    let z = last (a .symbology) (a .n) _ (number-counted (a .symbology) (a .n) (a .codes .now) (s .pre .0 .0) (s .pre .0 .1 .0) (s .pre .0 .1 .1)) (k .0 .0 .0 .0 .0 .0 .1) (k .0 .0 .0 .0 .0 .1) (k .0 .0 .0 .0 .1) (k .0 .0 .0 .1) (k .0 .0 .1) (k .0 .1) (k .1) in
+    (built (a .symbology) (a .n) (a .codes .now) (s .pre .0 .0) (s .pre .0 .1 .0) (s .pre .0 .1 .1) (a .n) (a .codes .now) _ (a .out .now) (s .pre .1) (c .before .ean2 .ensures ∙ z .0) (s .pre .0 .0) (s .pre .0 .1 .0) (sym (z .1))) .asks
 
 returns-8 : tie.Need-returns-8
 returns-8 c =
-    let a = c .before .before .before .before in
-    let nine : a .args .symbology ≡ 9
-    = either (λ h. none (a .args .symbology) (a .args .n) (a .args .codes .now) (search needs) (a .pre .1 .1 .1) (h .taken))
-    (λ h. nine (a .args .symbology) (a .args .n) (a .args .codes .now) (search needs) (a .pre .1 .1 .1) (c .before .before .before .match .rest) (h .1 .left)) (c .before .before .if1 .came) in (
-      c .halves3 .ensures .0,
-      twice (a .args .symbology) 9 (a .args .n) 6 (take (a .args .n) (a .args .codes .now)) (a .args .codes .now) (c .halves3 .last .0) nine
-          (halves12 (a .args .codes .now) (a .args .n) (search needs) (ready-as (a .args .symbology) 9 (take (a .args .n) (a .args .codes .now)) nine (a .pre .1 .1 .1))) (c .halves3 .ensures .1),
-    )
+    let s = c .before .before .before .before .before .before .before .before in
+    let a = s .args in
+    let k = c .before .before .before .before .before .before .match .rest in
+    let z = last (a .symbology) (a .n) _ (number-counted (a .symbology) (a .n) (a .codes .now) (s .pre .0 .0) (s .pre .0 .1 .0) (s .pre .0 .1 .1)) (k .0 .0 .0 .0 .0 .0 .1) (k .0 .0 .0 .0 .0 .1) (k .0 .0 .0 .0 .1) (k .0 .0 .0 .1) (k .0 .0 .1) (k .0 .1) (k .1) in
+    (built (a .symbology) (a .n) (a .codes .now) (s .pre .0 .0) (s .pre .0 .1 .0) (s .pre .0 .1 .1) (a .n) (a .codes .now) _ (a .out .now) (s .pre .1) (c .before .before .before .before .ean2 .ensures ∙ z .0) (s .pre .0 .0) (s .pre .0 .1 .0) (sym (z .1))) .gives (c .before .before .put-parts8 .ensures)
 
 pub build-spec : {M : Type 1} → statement M
 build-spec =
     tie.close
     (tie.spec
-    (λ c κs. (c .before .before .pre .0, (c .before .before .pre .1 .0, (c .before .before .pre .1 .1 .0, ready-as _ 3 _ (c .before .match .keys1) (c .before .before .pre .1 .1 .1)))))
-    (λ c κs. (c .before .before .pre .0, (c .before .before .pre .1 .0, (c .before .before .pre .1 .1 .0, ready-as _ 4 _ (c .before .match .keys2) (c .before .before .pre .1 .1 .1)))))
-    (λ c κs. (c .before .before .pre .0, (c .before .before .pre .1 .0, (c .before .before .pre .1 .1 .0, ready-as _ 5 _ (c .before .match .keys3) (c .before .before .pre .1 .1 .1)))))
-    (λ c κs. (c .before .before .pre .0, (c .before .before .pre .1 .0, (c .before .before .pre .1 .1 .0, ready-as _ 6 _ (c .before .match .keys4) (c .before .before .pre .1 .1 .1)))))
-    (λ c κs. (c .before .pre .1 .0, digits13 (c .before .args .codes .now) (c .before .args .n) (search needs) (ready-as _ 7 _ (c .match .keys5) (c .before .pre .1 .1 .1))))
-    halves-requires
-    halves-requires-2
-    code39-requires
-    halves-requires-3
-    (λ c. (c .codabar .ensures .0, known-as _ 3 _ _ _ (c .before .before .match .keys1) (c .codabar .ensures .1)))
-    (λ c. (c .industrial .ensures .0, known-as _ 4 _ _ _ (c .before .before .match .keys2) (c .industrial .ensures .1)))
-    (λ c. (c .interleaved .ensures .0, known-as _ 5 _ _ _ (c .before .before .match .keys3) (c .interleaved .ensures .1)))
-    (λ c. (c .matrix .ensures .0, known-as _ 6 _ _ _ (c .before .before .match .keys4) (c .matrix .ensures .1)))
+    (λ c κs. search needs)
+    (λ c. search needs)
+    put-parts-requires
+    (λ c κs. search needs)
+    (λ c. search needs)
+    put-parts-requires-2
+    (λ c κs. search needs)
+    (λ c. search needs)
+    lettered-requires
+    put-parts-requires-3
+    (λ c κs. search needs)
+    (λ c. search needs)
+    put-parts-requires-4
+    (λ c κs. search needs)
+    (λ c. search needs)
+    paired-requires
+    put-parts-requires-5
+    (λ c κs. search needs)
+    (λ c. search needs)
+    put-parts-requires-6
+    (λ c κs. search needs)
+    (λ c. search needs)
+    sided-requires
+    put-parts-requires-7
+    (λ c κs. search needs)
+    (λ c. search needs)
+    put-parts-requires-8
+    (λ c. search needs)
+    returns
+    (λ c. search needs)
+    returns-2
+    (λ c. search needs)
+    returns-3
+    (λ c. search needs)
+    returns-4
+    (λ c. search needs)
     returns-5
+    (λ c. search needs)
     returns-6
+    (λ c. search needs)
     returns-7
+    (λ c. search needs)
     returns-8)

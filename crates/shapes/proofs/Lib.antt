@@ -1,0 +1,3 @@
+pub mod Lines
+pub mod Only
+pub mod Words
