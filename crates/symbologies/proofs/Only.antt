@@ -8,8 +8,6 @@ use Rattle.symbologies.proofs.judging.judge_drawn.Reads as JudgeDrawn
 use Rattle.symbologies.proofs.judging.judge_drawn.Kinds as JudgeDrawnKinds
 use Rattle.symbologies.proofs.judging.judge_count.Reads as JudgeCount
 use Rattle.symbologies.proofs.judging.judge_count.Kinds as JudgeCountKinds
-use Rattle.symbologies.proofs.row.size_of.Reads as SizeOf
-use Rattle.symbologies.proofs.row.size_of.Kinds as SizeOfKinds
 use Rattle.symbologies.proofs.lengths.elements_of.Reads as ElementsOf
 use Rattle.symbologies.proofs.lengths.elements_of.Kinds as ElementsOfKinds
 use Rattle.symbologies.proofs.lengths.modules_of.Reads as ModulesOf
@@ -27,9 +25,6 @@ judge-drawn κs a p q x y = only
 
 pub judge-count : One 0 JudgeCountKinds.ps JudgeCountKinds.r JudgeCount.Learnt
 judge-count κs a p q x y = only
-
-pub size-of : One 0 SizeOfKinds.ps SizeOfKinds.r SizeOf.Learnt
-size-of κs a p q x y = only
 
 pub elements-of : One 0 ElementsOfKinds.ps ElementsOfKinds.r ElementsOf.Learnt
 elements-of κs a p q x y = only

@@ -3,9 +3,7 @@ use super::judging::Verdict;
 use super::sizes::PLACES;
 use words::Answer;
 ghost use mathlib.Core.Path.{_≡_};
-ghost use Rattle.tables.specs.Alphabet.{size};
 ghost use Rattle.words.specs.Order.{turned};
-ghost use Rattle.symbologies.specs.Symbologies.{symbologyOf};
 ghost use Rattle.symbologies.specs.Told.{told};
 
 pub struct Row {
@@ -29,17 +27,5 @@ pub fn turn_away(answer: Answer) -> Rowed
             codes: [0; PLACES],
             len: 0,
         },
-    }
-}
-
-// The number of characters of the symbology's alphabet.
-pub fn size_of(symbology: u8) -> u8
-    ensures { λ r. ⌜ r ≡ size (symbologyOf symbology .alphabet) ⌝ }
-{
-    match symbology {
-        1 => 43,
-        2 => 43,
-        3 => 20,
-        _ => 10,
     }
 }
