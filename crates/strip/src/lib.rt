@@ -91,12 +91,14 @@ fn hand_back(symbology: u8, mode: u8, row: Row, out: &mut [u8]) -> Answer
     ensures { λ r. ⌜ r ≡ answerFor (handedOf (dataOfRow symbology mode row) (length (now (out .entry)))) (modulesWithin symbology row) ⌝ }
     ensures { λ _. ⌜ now (out .exit) ≡ written (dataOfRow symbology mode row) (now (out .entry)) ⌝ }
 {
+    let codes = row.codes;
+    let len = row.len;
     let handed = data::data_of(symbology, mode, row, out);
     match handed {
         Handed::Turned(answer) => answer,
         Handed::Data(bytes) => Answer::HandedBack(
             bytes,
-            Modules(lengths::modules_of(symbology, row)),
+            Modules(lengths::modules_of(symbology, &codes, len)),
         ),
     }
 }

@@ -29,7 +29,7 @@ judge-count κs a p q x y = only
 pub elements-of : One 0 ElementsOfKinds.ps ElementsOfKinds.r ElementsOf.Learnt
 elements-of κs a p q x y = only
 
-pub modules-of : One 0 ModulesOfKinds.ps ModulesOfKinds.r ModulesOf.Learnt
+pub modules-of : One 1 ModulesOfKinds.ps ModulesOfKinds.r ModulesOf.Learnt
 modules-of κs a p q x y = only
 
 pub count-for : One 0 CountForKinds.ps CountForKinds.r CountFor.Learnt

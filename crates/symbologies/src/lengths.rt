@@ -1,7 +1,6 @@
 // How many elements and modules a row has, and the drawn count that a strip's length comes from: document 01's formulas, from the steps
 // and bases of its limits.
 use super::limits::limits_of;
-use super::row::Row;
 use super::sizes::LONGEST;
 use super::sizes::PLACES;
 ghost use mathlib.Core.Path.{_≡_};
@@ -55,17 +54,16 @@ fn less_in(symbology: u8, codes: &[u8; PLACES], n: usize) -> usize
 }
 
 // The modules of a row; 0 where its number passes its places.
-pub fn modules_of(symbology: u8, row: Row) -> usize
-    ensures { λ r. ⌜ r ≡ modulesWithin symbology row ⌝ }
+pub fn modules_of(symbology: u8, codes: &[u8; PLACES], len: usize) -> usize
+    requires { ⌜ length (now codes) ≡ places ⌝ }
+    ensures { λ r. ⌜ r ≡ modulesWithin symbology (record { codes = now (codes .entry); len = len }) ⌝ }
 {
-    let codes = row.codes;
-    let n = row.len;
-    if PLACES < n {
+    if PLACES < len {
         return 0;
     }
     let limits = limits_of(symbology);
-    let less = less_in(symbology, &codes, n);
-    let total = limits.each * n + limits.rest - less;
+    let less = less_in(symbology, codes, len);
+    let total = limits.each * len + limits.rest - less;
     if total == 0 { 0 } else { total - 1 }
 }
 

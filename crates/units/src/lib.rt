@@ -48,6 +48,6 @@ pub fn draw_row(symbology: u8, row: Row, out: &mut [u8]) -> Laid
     bytes::copy(&room[..count], out);
     Laid::Strip(
         Elements(count),
-        Modules(lengths::modules_of(symbology, row)),
+        Modules(lengths::modules_of(symbology, &codes, n)),
     )
 }

@@ -48,13 +48,13 @@ copy-requires c κs = rw length-take (omega (arith, c .before .before .before .b
 
 returns-2 : tie.Need-returns-2
 returns-2 c =
-    let s = c .before .before .before .before .before .before .before .before .before .before .before .before .before .before in
+    let s = c .before .before .before .before .before .before .before .before .before .before .before .before .before .before .before in
     let a = s .args in
     let all : length (a .row .codes) ≡ places = search needs in
-    let e = c .before .before .before .before .before .before .before .before .before .before .before .elements-of in
-    let u = c .before .before .before .before .before .before .before .build in
-    laid (a .symbology) (a .row) (a .out .now) all (s .pre) (e .result) (e .ensures) _ (u .last .0) (c .before .before .before .copy .last .1 .0) (c .modules-of .result) (c .before .before .before .before .before .before .before .before .before .before .if1 .left) (c .modules-of .ensures)
-    (room-long (a .symbology) (a .row) (a .out .now) all (s .pre) (e .result) (e .ensures) _ _ refl (u .ensures)) (u .ensures) (c .before .before .before .copy .ensures .1)
+    let e = c .before .before .before .before .before .before .before .before .before .before .before .before .elements-of in
+    let u = c .before .before .before .before .before .before .before .before .build in
+    laid (a .symbology) (a .row) (a .out .now) all (s .pre) (e .result) (e .ensures) _ (u .last .0) (c .before .before .before .before .copy .last .1 .0) (c .modules-of .result) (c .before .before .before .before .before .before .before .before .before .before .before .if1 .left) (c .modules-of .ensures)
+    (room-long (a .symbology) (a .row) (a .out .now) all (s .pre) (e .result) (e .ensures) _ _ refl (u .ensures)) (u .ensures) (c .before .before .before .before .copy .ensures .1)
 
 pub draw-row-spec : {M : Type 1} → statement M
 draw-row-spec =
