@@ -1,6 +1,5 @@
 // The strip, put part by part and unit by unit in lent room (document 01, "Two-width strips", "EAN and UPC strips").
 use super::choices;
-use super::writing;
 use shapes::parts;
 use shapes::parts::Mark;
 use shapes::parts::Part;
@@ -48,7 +47,7 @@ fn put_mark(out: &mut [u8], place: ElementPlace, mark: Mark) -> ElementPlace
         return place;
     }
     let at = put_gap(out, place, mark.gap);
-    writing::put_row(out, at, k, mark.word);
+    writers::put_row(out, at, k, mark.word);
     ElementPlace(at + k)
 }
 
@@ -68,9 +67,9 @@ fn put_shown(out: &mut [u8], at: usize, sets: &[[u64; 10]], unit: Unit, c: usize
 {
     let k = unit.elements;
     if k < 10 {
-        writing::put_row(out, at, k, word_at(sets, unit.set, c));
+        writers::put_row(out, at, k, word_at(sets, unit.set, c));
     } else {
-        writing::put_pair(
+        writers::put_pair(
             out,
             at,
             word_at(sets, unit.set, c / 10),

@@ -5,12 +5,10 @@
 // The strip is `stripOf` (symbologies, specs/Strips.antt): the parts of the symbology drawn with the row of each character. Its numbers
 // of elements and modules are document 01's formulas, and they are the strip's length and sum (symbologies, proofs/Totals.antt).
 //
-//   writing    a row put at a place
 //   choices    which row each unit shows
 //   layout     the parts, by their description (crate shapes)
 mod choices;
 mod layout;
-mod writing;
 
 use symbologies::lengths;
 use symbologies::row::Row;

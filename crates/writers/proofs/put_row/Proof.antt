@@ -6,8 +6,8 @@ use native.Mathlib.Omega.{arith}
 use borrow.Author.Needs.{needs}
 use borrow.Author.Tests.{lt-ltb, le-ltb}
 use Rattle.laws.proofs.Writing.{more, same-place}
-use Rattle.units.proofs.writing.put_row.Statement.{statement}
-use Rattle.units.proofs.writing.put_row.Tie as tie
+use Rattle.writers.proofs.put_row.Statement.{statement}
+use Rattle.writers.proofs.put_row.Tie as tie
 
 returns : tie.Need-returns
 returns c = rw (lt-ltb (c .before .before .before .before .before .before .args .k) 9 (omega arith)) (c .before .before .put .ensures)

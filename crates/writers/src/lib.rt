@@ -1,4 +1,8 @@
-// Elements put at a place of lent room, as a word: a byte an element, the first the lowest. Nothing but these elements changes.
+// Rows put at a place of a lent buffer, each as a word of up to eight elements at a time: a byte an element, the first the lowest (crate
+// shapes, specs/Sets.antt).
+//
+// The main property: what stood before the place and behind the row stays, and between them stands the row (laws, `Put`). A caller has shown
+// that there is room.
 ghost use Prim.Native.Nat.{_+_, _≤_};
 ghost use lib.ListN.{length};
 ghost use Rattle.laws.specs.Writing.{Put};

@@ -1,9 +1,9 @@
 -- `put_pair`: a bar and a space at a time.
 -- Assumes nothing.
 use borrow.Author.Needs.{needs}
-use Rattle.units.proofs.Bytes.{crossed}
-use Rattle.units.proofs.writing.put_pair.Statement.{statement}
-use Rattle.units.proofs.writing.put_pair.Tie as tie
+use Rattle.writers.proofs.Bytes.{crossed}
+use Rattle.writers.proofs.put_pair.Statement.{statement}
+use Rattle.writers.proofs.put_pair.Tie as tie
 
 returns : tie.Need-returns
 returns c = crossed _ _ _ (c .before .before .before .before .before .before .before .before .before .before .before .before .before .before .before .before .before .before .cross .ensures) (c .before .before .before .before .before .before .before .before .before .before .before .before .before .before .cross2 .ensures) (c .before .before .before .before .before .before .before .before .before .before .cross3 .ensures) (c .before .before .before .before .before .before .cross4 .ensures) (c .before .before .cross5 .ensures)

@@ -3,9 +3,9 @@
 use mathlib.Core.Path.{refl}
 use native.Mathlib.Omega.{arith}
 use borrow.Author.Needs.{needs}
-use Rattle.units.proofs.Bytes.{lapped}
-use Rattle.units.proofs.writing.put.Statement.{statement}
-use Rattle.units.proofs.writing.put.Tie as tie
+use Rattle.writers.proofs.Bytes.{lapped}
+use Rattle.writers.proofs.put.Statement.{statement}
+use Rattle.writers.proofs.put.Tie as tie
 
 returns : tie.Need-returns
 returns c =

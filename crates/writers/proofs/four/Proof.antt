@@ -5,9 +5,9 @@ use native.Mathlib.Omega.{arith}
 use lib.ListN.{length-set}
 use borrow.Author.Needs.{needs}
 use Rattle.laws.proofs.Writing.{same-text}
-use Rattle.units.proofs.Bytes.{four-put, shifted4}
-use Rattle.units.proofs.writing.four.Statement.{statement}
-use Rattle.units.proofs.writing.four.Tie as tie
+use Rattle.writers.proofs.Bytes.{four-put, shifted4}
+use Rattle.writers.proofs.four.Statement.{statement}
+use Rattle.writers.proofs.four.Tie as tie
 
 returns : tie.Need-returns
 returns c = same-text (sym (shifted4 _)) (four-put _ _ _ _ _ _ (omega arith))

@@ -3,9 +3,9 @@
 use native.Mathlib.Omega.{arith}
 use lib.ListN.{length-set}
 use borrow.Author.Needs.{needs}
-use Rattle.units.proofs.Bytes.{two-put}
-use Rattle.units.proofs.writing.two.Statement.{statement}
-use Rattle.units.proofs.writing.two.Tie as tie
+use Rattle.writers.proofs.Bytes.{two-put}
+use Rattle.writers.proofs.two.Statement.{statement}
+use Rattle.writers.proofs.two.Tie as tie
 
 returns : tie.Need-returns
 returns c = two-put _ _ _ _ (omega arith)

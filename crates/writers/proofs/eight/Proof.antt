@@ -5,8 +5,8 @@ use native.Mathlib.Omega.{arith}
 use borrow.Author.Needs.{needs}
 use Rattle.laws.proofs.Writing.{then, same-text, same-place}
 use Rattle.shapes.proofs.Words.{bytes-add}
-use Rattle.units.proofs.writing.eight.Statement.{statement}
-use Rattle.units.proofs.writing.eight.Tie as tie
+use Rattle.writers.proofs.eight.Statement.{statement}
+use Rattle.writers.proofs.eight.Tie as tie
 
 returns : tie.Need-returns
 returns c = same-text (sym (bytes-add 4 4 _)) (same-place (omega arith) (then (c .before .before .before .before .before .before .four .ensures) (c .before .before .four2 .ensures)))
