@@ -1,6 +1,7 @@
 -- Document 01's numbers are those of the strip: as many elements, as many modules. The elements follow from the parts alone, and so do the
 -- modules where every free set is uniform; in Codabar they are counted character by character.
 --
+--   stepped           what parts add up to is document 01's formula, by step and base: one law for elements and modules
 --   unit-widths       the elements of a strip's units, for every count of the symbology
 --   level-modules     the modules where no character has fewer than another
 --   elements          the length of the strip of a ready row
@@ -13,9 +14,10 @@ use mathlib.Core.Bool.{true, false}
 use mathlib.Core.List.{List, [], _∷_, map}
 use Prim.Native.Nat.{ℕ, suc, _+_, _*_, _-_, _/_, _<_, _≤_}
 use native.Mathlib.Omega.{arith}
-use lib.Dec.{ltb}
+use native.Mathlib.Decide.{ℕ-discrete}
+use lib.Dec.{eqb, ltb}
 use lib.ListN.{length, getD}
-use borrow.Author.Tests.{ltb-true, le-ltb}
+use borrow.Author.Tests.{ltb-true, le-ltb, ne-eqb}
 use Rattle.laws.specs.Search.{pick}
 use Rattle.laws.specs.Elements.{sum}
 use Rattle.laws.specs.Units.{Kind, free, widths, strip}
@@ -36,66 +38,42 @@ use Rattle.symbologies.specs.Symbologies.{symbologies, symbologyOf}
 use Rattle.symbologies.specs.Rows.{rowOf}
 use Rattle.symbologies.specs.Strips.{elementsOf, modulesOf, unitsOf, stripOf, counted, allAllowed, ready}
 use Rattle.symbologies.proofs.Measuring.{less-most, apart, nothing-less}
-use Rattle.symbologies.proofs.Laying.{add-widths, add-tally, Steady, tally, steady-sum}
+use Rattle.symbologies.proofs.Laying.{total, add-widths, add-tally, Steady, tally, steady-sum}
 use Rattle.symbologies.proofs.Counted.{counted-codabar, counted-even, counted-ean13, counted-ean8, counted-upc, by-number}
 use Rattle.symbologies.proofs.Ready.{drawn-ready, ready-counted, ready-allowed, letter-high, letter-low, ready-fits, steady-39, steady-industrial, steady-interleaved, steady-matrix, steady-left, steady-odd, all-good}
 
--- ---- elements and modules of the parts
+-- ---- elements and modules of the parts, by step and base
 
--- the elements of n characters, and the modules of any n
-abbrev Sums : List Part → ℕ → ℕ → ℕ → Type 0
-Sums ps n elements modules = (widths (partUnits n ps) ≡ elements) × (tally (partUnits n ps) ≡ modules)
+-- what parts add up to, and one more: so much for each character, and so much besides
+abbrev Stepped : (List Kind → ℕ) → ℕ → ℕ → ℕ → ℕ → Type 0
+Stepped f s n step base = total f n (symbologyOf s .parts) + 1 ≡ step * n + base
 
-sums-39 : (n : ℕ) → Sums starred n (10 * n + 19) (16 * n + 31)
-unfolding starred rows39 star39 rowsOf bitsOf alphabet39 chars39 table42
-sums-39 n = (omega (arith, add-widths n starred), omega (arith, add-tally n starred))
+stepped : (f : List Kind → ℕ) (s n step base : ℕ) → ((ps : List Part) → f (partUnits n ps) ≡ total f n ps) → Stepped f s n step base → f (unitsOf s n) ≡ step * n + base - 1
+unfolding unitsOf
+stepped f s n step base add e = omega (arith, add (symbologyOf s .parts))
 
-sums-industrial : (n : ℕ) → Sums industrial n (10 * n + 11) (14 * n + 19)
-unfolding industrial industrialRows industrialStart industrialStop digitRows rowsOf alphabetDigits table44
-sums-industrial n = (omega (arith, add-widths n industrial), omega (arith, add-tally n industrial))
+-- the line's own steps and bases: the elements for every count, the modules where no row of a set has fewer than another
+abbrev Formulas : ℕ → Type 0
+Formulas s = (n : ℕ) → counted s n ≡ true
+    → Stepped widths s n (symbologyOf s .limits .step) (symbologyOf s .limits .more) × (eqb s 3 ≡ false → Stepped tally s n (symbologyOf s .limits .each) (symbologyOf s .limits .rest))
 
-sums-interleaved : (n : ℕ) → n ≡ 2 * (n / 2) → Sums interleaved n (5 * n + 7) (9 * n + 9)
-unfolding interleaved interleavedRows interleavedStart interleavedStop digitRows rowsOf alphabetDigits table44
-sums-interleaved n e = (omega (arith, add-widths n interleaved), omega (arith, add-tally n interleaved))
-
-sums-matrix : (n : ℕ) → Sums matrix n (6 * n + 11) (10 * n + 15)
-unfolding matrix matrixRows matrixEnds digitRows rowsOf alphabetDigits table44
-sums-matrix n = (omega (arith, add-widths n matrix), omega (arith, add-tally n matrix))
-
-sums-left : (k n : ℕ) → Sums (halved k leftRows) n (8 * k + 11) (14 * k + 11)
-unfolding halved leftRows oddRows evenRows rightRows guard centre patterns table52
-sums-left k n = (omega (arith, add-widths n (halved k leftRows)), omega (arith, add-tally n (halved k leftRows)))
-
-sums-odd : (k n : ℕ) → Sums (halved k oddRows) n (8 * k + 11) (14 * k + 11)
-unfolding halved oddRows rightRows guard centre patterns table52
-sums-odd k n = (omega (arith, add-widths n (halved k oddRows)), omega (arith, add-tally n (halved k oddRows)))
-
-widths-codabar : (n : ℕ) → 3 ≤ n → widths (partUnits n lettering) ≡ 8 * n - 1
-unfolding lettering innerRows letterRows rowsOf alphabetCodabar table41
-widths-codabar n h = omega (arith, add-widths n lettering)
-
--- ---- elements, by number
-
-abbrev Wide : ℕ → Type 0
-Wide s = (n : ℕ) → counted s n ≡ true → widths (unitsOf s n) ≡ elementsOf s n
-
-wide : From Wide 1 9
-unfolding elementsOf unitsOf symbologyOf symbologies
-wide = (
-  λ n c. omega (arith, sums-39 n .0),
+formulas : From Formulas 1 9
+unfolding symbologyOf symbologies starred lettering industrial interleaved matrix halved rows39 star39 innerRows letterRows industrialRows industrialStart industrialStop interleavedRows interleavedStart interleavedStop matrixRows matrixEnds digitRows leftRows oddRows evenRows rightRows guard centre rowsOf bitsOf alphabet39 chars39 table42 alphabetCodabar table41 alphabetDigits table44 patterns table52
+formulas = (
+  λ n c. (omega arith, λ e. omega arith),
   (
-    λ n c. omega (arith, sums-39 n .0),
+    λ n c. (omega arith, λ e. omega arith),
     (
-      λ n c. omega (arith, widths-codabar n (counted-codabar n c .0)),
+      λ n c. (omega (arith, counted-codabar n c .0), λ e. cc),
       (
-        λ n c. omega (arith, sums-industrial n .0),
+        λ n c. (omega arith, λ e. omega arith),
         (
-          λ n c. omega (arith, sums-interleaved n (counted-even n c) .0),
+          λ n c. (omega (arith, counted-even n c), λ e. omega (arith, counted-even n c)),
           (
-            λ n c. omega (arith, sums-matrix n .0),
+            λ n c. (omega arith, λ e. omega arith),
             (
-              λ n c. omega (arith, sums-left 6 n .0, counted-ean13 n c),
-              (λ n c. omega (arith, sums-odd 4 n .0, counted-ean8 n c), (λ n c. omega (arith, sums-odd 6 n .0, counted-upc n c), tt)),
+              λ n c. (omega (arith, counted-ean13 n c), λ e. omega (arith, counted-ean13 n c)),
+              (λ n c. (omega (arith, counted-ean8 n c), λ e. omega (arith, counted-ean8 n c)), (λ n c. (omega (arith, counted-upc n c), λ e. omega (arith, counted-upc n c)), tt)),
             ),
           ),
         ),
@@ -105,7 +83,8 @@ wide = (
 )
 
 pub unit-widths : (s n : ℕ) → counted s n ≡ true → widths (unitsOf s n) ≡ elementsOf s n
-unit-widths s n e = by-number Wide wide s n e n e
+unfolding elementsOf
+unit-widths s n e = stepped widths s n (symbologyOf s .limits .step) (symbologyOf s .limits .more) (add-widths n) (by-number Formulas formulas s n e n e .0)
 
 -- ---- modules where no character has fewer than another
 
@@ -149,48 +128,43 @@ modules-codabar (a ∷ b ∷ cs) l e =
     let first : sum (getD letterRows (a - 16) []) + 1 ≡ unitOf a = letter-modules a (both-left (placed true a) (allAllowed 3 false (b ∷ cs)) e) in
     rw (n, sum-append) (omega (arith, modules-inner b cs (both-right (placed true a) (allAllowed 3 false (b ∷ cs)) e)))
 
--- ---- modules, by number
-
-abbrev Measured : ℕ → Type 0
-Measured s = (r : List ℕ) → ready s r ≡ true → sum (stripOf s r) ≡ modulesOf s r
+-- ---- modules
 
 -- where every free set is uniform
-steadily : (s : ℕ) (r : List ℕ) → ready s r ≡ true → ((c : ℕ) → symbologyOf s .less c ≡ 0) → Steady (unitsOf s (length r))
-    → tally (unitsOf s (length r)) ≡ symbologyOf s .limits .each * length r + symbologyOf s .limits .rest - 1 → sum (stripOf s r) ≡ modulesOf s r
-unfolding stripOf
-steadily s r h z g t = steady-sum (unitsOf s (length r)) (symbologyOf s .shows .choices r) g (ready-fits s r h) ∙ t ∙ sym (level-modules s z r)
+abbrev Even : ℕ → Type 0
+Even s = eqb s 3 ≡ false → ((c : ℕ) → symbologyOf s .less c ≡ 0) × ((n : ℕ) → Steady (unitsOf s n))
 
-measured-codabar : Measured 3
-unfolding stripOf unitsOf modulesOf symbologyOf symbologies
-measured-codabar r h = modules-codabar r (counted-codabar (length r) (ready-counted 3 r h) .0) (ready-allowed 3 r h) ∙ omega arith
-
-measured : From Measured 1 9
+even : From Even 1 9
 unfolding unitsOf symbologyOf symbologies
-measured = (
-  λ r h. steadily 1 r h (λ c. refl) (steady-39 (length r)) (omega (arith, sums-39 (length r) .1)),
+even = (
+  λ e. (λ c. refl, steady-39),
   (
-    λ r h. steadily 2 r h (λ c. refl) (steady-39 (length r)) (omega (arith, sums-39 (length r) .1)),
+    λ e. (λ c. refl, steady-39),
     (
-      measured-codabar,
+      λ e. absurd (let z : _≡_ {A = ℕ} 0 1 = cc in omega arith),
       (
-        λ r h. steadily 4 r h (λ c. refl) (steady-industrial (length r)) (omega (arith, sums-industrial (length r) .1)),
+        λ e. (λ c. refl, steady-industrial),
         (
-          λ r h. steadily 5 r h (λ c. refl) (steady-interleaved (length r)) (omega (arith, sums-interleaved (length r) (counted-even (length r) (ready-counted 5 r h)) .1)),
-          (
-            λ r h. steadily 6 r h (λ c. refl) (steady-matrix (length r)) (omega (arith, sums-matrix (length r) .1)),
-            (
-              λ r h. steadily 7 r h (λ c. refl) (steady-left 6 (length r)) (omega (arith, sums-left 6 (length r) .1, counted-ean13 (length r) (ready-counted 7 r h))),
-              (
-                λ r h. steadily 8 r h (λ c. refl) (steady-odd 4 (length r)) (omega (arith, sums-odd 4 (length r) .1, counted-ean8 (length r) (ready-counted 8 r h))),
-                (λ r h. steadily 9 r h (λ c. refl) (steady-odd 6 (length r)) (omega (arith, sums-odd 6 (length r) .1, counted-upc (length r) (ready-counted 9 r h))), tt),
-              ),
-            ),
-          ),
+          λ e. (λ c. refl, steady-interleaved),
+          (λ e. (λ c. refl, steady-matrix), (λ e. (λ c. refl, steady-left 6), (λ e. (λ c. refl, steady-odd 4), (λ e. (λ c. refl, steady-odd 6), tt)))),
         ),
       ),
     ),
   ),
 )
+
+steadily : (s : ℕ) (r : List ℕ) → ready s r ≡ true → eqb s 3 ≡ false → sum (stripOf s r) ≡ modulesOf s r
+unfolding stripOf
+steadily s r h e =
+    let n : ℕ = length r in
+    let c : counted s n ≡ true = ready-counted s r h in
+    let g : ((c : ℕ) → symbologyOf s .less c ≡ 0) × ((n : ℕ) → Steady (unitsOf s n)) = by-number Even even s n c e in
+    steady-sum (unitsOf s n) (symbologyOf s .shows .choices r) (g .1 n) (ready-fits s r h)
+    ∙ stepped tally s n (symbologyOf s .limits .each) (symbologyOf s .limits .rest) (add-tally n) (by-number Formulas formulas s n c n c .1 e) ∙ sym (level-modules s (g .0) r)
+
+measured-codabar : (r : List ℕ) → ready 3 r ≡ true → sum (stripOf 3 r) ≡ modulesOf 3 r
+unfolding stripOf unitsOf modulesOf symbologyOf symbologies
+measured-codabar r h = modules-codabar r (counted-codabar (length r) (ready-counted 3 r h) .0) (ready-allowed 3 r h) ∙ omega arith
 
 -- ---- the theorems
 
@@ -202,7 +176,11 @@ module _ (s : ℕ) (r : List ℕ) (h : ready s r ≡ true) where
       ∙ unit-widths s (length r) (ready-counted s r h)
 
   pub modules : sum (stripOf s r) ≡ modulesOf s r
-  modules = by-number Measured measured s (length r) (ready-counted s r h) r h
+  modules = go (ℕ-discrete s 3)
+    where
+      go : Dec (s ≡ 3) → sum (stripOf s r) ≡ modulesOf s r
+      go (yes e) = rw e (measured-codabar r (rw e at h))
+      go (no e) = steadily s r h (ne-eqb s 3 e)
 
 module _ (s m : ℕ) (d r : List ℕ) (e : rowOf s m d ≡ gives r) where
   pub drawn-elements : length (stripOf s r) ≡ elementsOf s (length r)
