@@ -18,7 +18,7 @@ use Rattle.words.specs.Order.{Outcome, gives, turned}
 use Rattle.symbologies.specs.declared.row.Rowed.{Rowed}
 use Rattle.symbologies.specs.declared.judging.Verdict.the-variants.{Given as given-row, Turned}
 use Rattle.symbologies.specs.Sizes.{places}
-use Rattle.symbologies.specs.Rows.{rowOfField, rowOf}
+use Rattle.symbologies.specs.Rows.{rowOfField}
 use Rattle.symbologies.specs.Strips.{elementsOf, ready}
 use Rattle.symbologies.specs.Told.{rowIn, told}
 use Rattle.symbologies.proofs.Held.{take-pad}

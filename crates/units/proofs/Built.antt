@@ -17,7 +17,6 @@ use lib.ListN.{length, take}
 use lib.Seq.{length-take-le}
 use Rattle.laws.specs.Units.{Kind, fixed, free, strip, frees, Fits}
 use Rattle.laws.specs.Writing.{front}
-use Rattle.laws.proofs.Finite.{From}
 use Rattle.laws.proofs.Spelling.{Below}
 use Rattle.tables.specs.TwoOfFive.{table44, alphabetDigits}
 use Rattle.symbologies.specs.Sizes.{places}

@@ -26,7 +26,6 @@ use Rattle.laws.specs.Spelling.{counted}
 use Rattle.laws.proofs.Finite.{both-left, both-right}
 use Rattle.laws.proofs.Spelling.{Below, counted-length}
 use Rattle.shapes.specs.declared.parts.Mark.{Mark}
-use Rattle.shapes.specs.declared.parts.Unit.{Unit}
 use Rattle.shapes.specs.declared.parts.Count.{Count}
 use Rattle.shapes.specs.declared.parts.Count.the-variants.{Of, All, Inner, Half}
 use Rattle.shapes.specs.declared.parts.Part.{Part as Line}

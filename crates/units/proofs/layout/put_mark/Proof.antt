@@ -1,15 +1,10 @@
 -- `put_mark`: nothing, or the parting space and the mark's row.
 -- Assumes nothing.
-use mathlib.Core.Path.{_≡_, refl, sym}
-use mathlib.Core.List.{[], _++_}
-use Prim.Native.Nat.{_+_, _≤_}
+use mathlib.Core.Path.{sym}
 use native.Mathlib.Omega.{arith}
-use lib.ListN.{length, length-append}
+use lib.ListN.{length-append}
 use borrow.Author.Needs.{needs}
-use Rattle.laws.specs.Units.{strip}
 use Rattle.laws.proofs.Writing.{none, then, same-text}
-use Rattle.shapes.specs.Sets.{rowOf}
-use Rattle.shapes.specs.Described.{gapIn}
 use Rattle.shapes.proofs.Words.{row-length}
 use Rattle.units.proofs.Marks.{mark-none, mark-some, mark-sized}
 use Rattle.units.proofs.layout.put_mark.Statement.{statement}

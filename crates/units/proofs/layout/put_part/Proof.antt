@@ -1,16 +1,14 @@
 -- `put_part`: the mark, and then a unit a turn.
 -- Assumes nothing.
-use mathlib.Core.Path.{_≡_, refl, sym}
-use mathlib.Core.List.{[], _∷_, _++_}
-use Prim.Native.Nat.{ℕ, _+_, _-_, _<_, _≤_}
+use mathlib.Core.Path.{_≡_}
+use Prim.Native.Nat.{_+_, _-_, _≤_}
 use native.Mathlib.Omega.{arith}
-use lib.ListN.{length, getD, take, drop, length-append}
+use lib.ListN.{length, take, drop, length-append}
 use borrow.Author.Needs.{needs}
-use Rattle.laws.specs.Units.{strip}
 use Rattle.laws.specs.Writing.{putIn}
 use Rattle.laws.proofs.Writing.{then, Rest, rest-start, rest-put, rest-end}
 use Rattle.laws.proofs.Spelling.{Below}
-use Rattle.shapes.specs.Described.{unitIn, markIn}
+use Rattle.shapes.specs.Described.{unitIn}
 use Rattle.units.specs.Units.{laid}
 use Rattle.units.proofs.Parts.{next-choice, sound-mark, sound-unit}
 use Rattle.units.proofs.layout.put_part.Statement.{statement}
