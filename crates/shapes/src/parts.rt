@@ -4,10 +4,11 @@ ghost use mathlib.Core.Path.{_≡_};
 ghost use mathlib.Core.Bool.{true, false};
 ghost use mathlib.Core.List.{[], _∷_};
 ghost use lib.ListN.{length};
+ghost use Rattle.laws.specs.Search.{pick};
 ghost use Rattle.symbologies.specs.Parts.{starred, lettering, industrial, interleaved, matrix};
 ghost use Rattle.symbologies.specs.Symbologies.{symbologyOf};
 ghost use Rattle.shapes.specs.Sets.{sets39, setsCodabar, setsIndustrial, setsDigits, setsOf};
-ghost use Rattle.shapes.specs.Described.{countIn, closed, lineAt, halves, Describes};
+ghost use Rattle.shapes.specs.Described.{isKnown, countIn, closed, lineAt, halves, Describes};
 
 // A start, a stop, a guard or the centre: elements of one pattern, behind a parting space or not. One of no elements is none.
 pub struct Mark {
@@ -195,21 +196,31 @@ fn matrix(i: usize) -> Part
     )
 }
 
+// The place of part i among the parts of a symbology; behind the last where the number is none.
+fn place_of(symbology: u8, i: usize) -> usize
+    ensures { λ r. ⌜ r ≡ pick (isKnown symbology) i 3 ⌝ }
+{
+    if symbology == 0 {
+        return 3;
+    }
+    if symbology < 10 { i } else { 3 }
+}
+
 // Part i of a symbology, from 0 on; nothing behind its last, and so it is for any number that is no symbology.
 pub fn part_of(symbology: u8, i: usize) -> Part
     ensures { λ r. ⌜ Describes (setsOf symbology) (symbologyOf symbology .parts) i r ⌝ }
 {
+    let at = place_of(symbology, i);
     match symbology {
-        1 => starred(i),
-        2 => starred(i),
-        3 => lettering(i),
-        4 => industrial(i),
-        5 => interleaved(i),
-        6 => matrix(i),
-        7 => halved(i, 6, 20),
-        8 => halved(i, 4, 10),
-        9 => halved(i, 6, 10),
-        _ => halved(3, 6, 10),
+        1 => starred(at),
+        2 => starred(at),
+        3 => lettering(at),
+        4 => industrial(at),
+        5 => interleaved(at),
+        6 => matrix(at),
+        7 => halved(at, 6, 20),
+        8 => halved(at, 4, 10),
+        _ => halved(at, 6, 10),
     }
 }
 

@@ -80,8 +80,8 @@ module _ (sets : List (List ℕ)) (u : Unit) (c : ℕ) (h : c < u .size) where
           let n : 10 ≤ u .elements = ltb-false (u .elements) 10 e in
           rw (pair-in n) (omega (arith, sized 10 (u .elements) z .1))
 
-  pub in-sets : within (length sets) u ≡ true → u .elements < 10 → 10 * u .set + c < 10 * length sets
-  in-sets w n = omega (arith, leb-true (10 * u .set + u .size) (10 * length sets) (rw (lt-ltb (u .elements) 10 n) at w))
+  pub in-sets : within (length sets) u ≡ true → u .elements < 10 → 10 * u .set + u .size ≤ 10 * length sets
+  in-sets w n = leb-true (10 * u .set + u .size) (10 * length sets) (rw (lt-ltb (u .elements) 10 n) at w)
 
   pub in-set : within (length sets) u ≡ true → 10 ≤ u .elements → (c < 100) × (u .set < length sets)
   in-set w n =

@@ -59,6 +59,18 @@ fn word_at(sets: &[[u64; 10]], set: usize, c: usize) -> u64
     sets[set + c / 10][c % 10]
 }
 
+// The word of the row that a unit shows for choice c. Where its rows are one set, nothing is divided.
+fn word_of(sets: &[[u64; 10]], unit: Unit, c: usize) -> u64
+    requires { ⌜ (10 * unit .set + unit .size ≤ 10 * length (now sets)) × (c < unit .size) ⌝ }
+    ensures { λ r. ⌜ r ≡ wordAt (now (sets .entry)) (unit .set) c ⌝ }
+{
+    let set = unit.set;
+    if unit.size <= 10 {
+        return sets[set][c];
+    }
+    word_at(sets, set, c)
+}
+
 // The row that a unit shows for choice c, or the pair.
 fn put_shown(out: &mut [u8], at: usize, sets: &[[u64; 10]], unit: Unit, c: usize)
     requires { ⌜ (sizeable 10 (unit .elements) ≡ true) × ((within (length (now sets)) unit ≡ true) × (c < unit .size)) ⌝ }
@@ -67,7 +79,7 @@ fn put_shown(out: &mut [u8], at: usize, sets: &[[u64; 10]], unit: Unit, c: usize
 {
     let k = unit.elements;
     if k < 10 {
-        writers::put_row(out, at, k, word_at(sets, unit.set, c));
+        writers::put_row(out, at, k, word_of(sets, unit, c));
     } else {
         writers::put_pair(
             out,

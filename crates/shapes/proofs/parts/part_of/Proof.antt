@@ -1,18 +1,21 @@
 -- `part_of`: each arm has the parts of its number. The lines of EAN and UPC mean their parts by computation, and any other number has none.
 -- Assumes nothing.
 use borrow.Author.Needs.{needs}
-use mathlib.Core.Path.{_≡_, refl}
-use mathlib.Core.Bool.{Bool, true, false}
+use mathlib.Core.Path.{_≡_, refl, _∙_}
+use mathlib.Core.Bool.{Bool, true, false, not}
 use mathlib.Core.List.{List, [], _∷_}
-use Prim.Native.Nat.{ℕ}
+use Prim.Native.Nat.{ℕ, _<_}
 use native.Mathlib.Omega.{arith}
-use Rattle.laws.proofs.Arms.{stretch}
+use native.Mathlib.Decide.{ℕ-discrete}
+use borrow.Author.Tests.{not-true}
+use Rattle.laws.specs.Search.{pick}
+use Rattle.laws.proofs.Arms.{Off, stretch}
 use Rattle.tables.specs.Ean.{leftRows, oddRows, evenRows, rightRows, patterns, table52, guard, centre}
 use Rattle.symbologies.specs.Parts.{Part, halved}
 use Rattle.symbologies.specs.Symbologies.{symbologies, symbologyOf}
 use Rattle.shapes.specs.declared.parts.Part.{Part as Line}
 use Rattle.shapes.specs.Sets.{setsEan, setsOf}
-use Rattle.shapes.specs.Described.{lineAt, halves, Describes}
+use Rattle.shapes.specs.Described.{isKnown, lineAt, halves, Describes}
 use Rattle.shapes.proofs.Lines.{described}
 use Rattle.shapes.proofs.parts.part_of.Statement.{statement}
 use Rattle.shapes.proofs.parts.part_of.Tie as tie
@@ -37,14 +40,25 @@ empty : (ps : List Part) → isEmpty ps ≡ true → [] ≡ ps
 empty [] t = refl
 empty (p ∷ ps) t = cc
 
-abbrev known : List ℕ
-known = 9 ∷ 8 ∷ 7 ∷ 6 ∷ 5 ∷ 4 ∷ 3 ∷ 2 ∷ 1 ∷ []
+abbrev eight : List ℕ
+eight = 8 ∷ 7 ∷ 6 ∷ 5 ∷ 4 ∷ 3 ∷ 2 ∷ 1 ∷ []
 
-returns-10 : tie.Need-returns-10
-returns-10 c =
-    let a = c .before .before .args in
-    let none = stretch known 0 256 (λ s. isEmpty (symbologyOf s .parts)) (unfold symbologyOf symbologies in refl) (a .symbology) (omega arith) (search needs) (c .before .match .rest) in
-    described (setsOf (a .symbology)) [] (symbologyOf (a .symbology) .parts) (a .i) (c .halved4 .result) (unfold lineAt in c .halved4 .ensures) (empty (symbologyOf (a .symbology) .parts) none) refl
+-- the place of a part, for a number that is a symbology
+placed : (s k i at : ℕ) → at ≡ pick (isKnown s) i 3 → s ≡ k → isKnown k ≡ true → at ≡ i
+placed s k i at e q t = e ∙ rw (q, t) refl
+
+-- the last arm: UPC-A, or a number that is no symbology
+last : (s i at : ℕ) (r : Line) → at ≡ pick (isKnown s) i 3 → s < 256 → Off eight s → r ≡ lineAt (halves 6 10) at → Describes (setsOf s) (symbologyOf s .parts) i r
+unfolding setsOf symbologyOf symbologies lineAt
+last s i at r e h k q = go (ℕ-discrete s 9)
+  where
+    go : Dec (s ≡ 9) → Describes (setsOf s) (symbologyOf s .parts) i r
+    go (yes n) = rw n (upca i r (rw (placed s 9 i at e n refl) at q))
+    go (no n) =
+        let none = stretch (9 ∷ eight) 0 256 (λ s. isEmpty (symbologyOf s .parts)) refl s (omega arith) h (k, n) in
+        let out = stretch (9 ∷ eight) 0 256 (λ s. not (isKnown s)) refl s (omega arith) h (k, n) in
+        let three : at ≡ 3 = e ∙ rw (not-true (isKnown s) out) refl in
+        described (setsOf s) [] (symbologyOf s .parts) i r (rw three at q) (empty (symbologyOf s .parts) none) refl
 
 pub part-of-spec : {M : Type 1} → statement M
 part-of-spec =
@@ -60,13 +74,12 @@ part-of-spec =
     (λ c κs. search needs)
     (λ c κs. search needs)
     (λ c κs. search needs)
-    (λ c. unfold setsOf symbologyOf symbologies in rw (c .before .match .keys1) (c .starred .ensures))
-    (λ c. unfold setsOf symbologyOf symbologies in rw (c .before .match .keys2) (c .starred2 .ensures))
-    (λ c. unfold setsOf symbologyOf symbologies in rw (c .before .match .keys3) (c .lettering .ensures))
-    (λ c. unfold setsOf symbologyOf symbologies in rw (c .before .match .keys4) (c .industrial .ensures))
-    (λ c. unfold setsOf symbologyOf symbologies in rw (c .before .match .keys5) (c .interleaved .ensures))
-    (λ c. unfold setsOf symbologyOf symbologies in rw (c .before .match .keys6) (c .matrix .ensures))
-    (λ c. unfold setsOf symbologyOf symbologies in rw (c .before .match .keys7) (ean13 _ _ (c .halved .ensures)))
-    (λ c. unfold setsOf symbologyOf symbologies in rw (c .before .match .keys8) (ean8 _ _ (c .halved2 .ensures)))
-    (λ c. unfold setsOf symbologyOf symbologies in rw (c .before .match .keys9) (upca _ _ (c .halved3 .ensures)))
-    returns-10)
+    (λ c. unfold setsOf symbologyOf symbologies in rw (c .before .match .keys1) (rw (placed _ 1 _ _ (c .before .before .place-of .ensures) (c .before .match .keys1) refl) at (c .starred .ensures)))
+    (λ c. unfold setsOf symbologyOf symbologies in rw (c .before .match .keys2) (rw (placed _ 2 _ _ (c .before .before .place-of .ensures) (c .before .match .keys2) refl) at (c .starred2 .ensures)))
+    (λ c. unfold setsOf symbologyOf symbologies in rw (c .before .match .keys3) (rw (placed _ 3 _ _ (c .before .before .place-of .ensures) (c .before .match .keys3) refl) at (c .lettering .ensures)))
+    (λ c. unfold setsOf symbologyOf symbologies in rw (c .before .match .keys4) (rw (placed _ 4 _ _ (c .before .before .place-of .ensures) (c .before .match .keys4) refl) at (c .industrial .ensures)))
+    (λ c. unfold setsOf symbologyOf symbologies in rw (c .before .match .keys5) (rw (placed _ 5 _ _ (c .before .before .place-of .ensures) (c .before .match .keys5) refl) at (c .interleaved .ensures)))
+    (λ c. unfold setsOf symbologyOf symbologies in rw (c .before .match .keys6) (rw (placed _ 6 _ _ (c .before .before .place-of .ensures) (c .before .match .keys6) refl) at (c .matrix .ensures)))
+    (λ c. unfold setsOf symbologyOf symbologies in rw (c .before .match .keys7) (ean13 _ _ (rw (placed _ 7 _ _ (c .before .before .place-of .ensures) (c .before .match .keys7) refl) at (c .halved .ensures))))
+    (λ c. unfold setsOf symbologyOf symbologies in rw (c .before .match .keys8) (ean8 _ _ (rw (placed _ 8 _ _ (c .before .before .place-of .ensures) (c .before .match .keys8) refl) at (c .halved2 .ensures))))
+    (λ c. last _ _ _ _ (c .before .before .place-of .ensures) (search needs) (c .before .match .rest) (c .halved3 .ensures)))
