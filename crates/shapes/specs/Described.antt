@@ -4,7 +4,6 @@
 --   markIn    a mark; one of no elements is none
 --   rowIn     what a unit shows for a choice: the row of that number in its sets, or a pair, woven of the rows of two digits
 --   unitIn    a unit: one of so many rows
---   isKnown   whether a number is a symbology
 --   countIn   how many units follow for n drawn characters; isNone, none whatever n is
 --   partIn    the part that is described; closed, a mark with no units behind it; nothing, no mark either
 --   lineAt    line i of a list, nothing past them
@@ -45,9 +44,6 @@ rowIn sets u c =
 
 abbrev pub unitIn : List (List ℕ) → Unit → List Kind
 unitIn sets u = gapIn (u .gap) ++ (free (map (rowIn sets u) (counted 0 (u .size))) ∷ [])
-
-abbrev pub isKnown : ℕ → Bool
-isKnown s = ltb 0 s && ltb s 10
 
 abbrev pub countIn : Count → ℕ → ℕ
 countIn (Of k) n = k

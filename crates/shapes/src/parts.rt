@@ -8,7 +8,7 @@ ghost use Rattle.laws.specs.Search.{pick};
 ghost use Rattle.symbologies.specs.Parts.{starred, lettering, industrial, interleaved, matrix};
 ghost use Rattle.symbologies.specs.Symbologies.{symbologyOf};
 ghost use Rattle.shapes.specs.Sets.{sets39, setsCodabar, setsIndustrial, setsDigits, setsOf};
-ghost use Rattle.shapes.specs.Described.{isKnown, countIn, closed, lineAt, halves, Describes};
+ghost use Rattle.shapes.specs.Described.{countIn, closed, lineAt, halves, Describes};
 
 // A start, a stop, a guard or the centre: elements of one pattern, behind a parting space or not. One of no elements is none.
 pub struct Mark {
@@ -198,7 +198,7 @@ fn matrix(i: usize) -> Part
 
 // The place of part i among the parts of a symbology; behind the last where the number is none.
 fn place_of(symbology: u8, i: usize) -> usize
-    ensures { λ r. ⌜ r ≡ pick (isKnown symbology) i 3 ⌝ }
+    ensures { λ r. ⌜ r ≡ pick (symbologyOf symbology .limits .known) i 3 ⌝ }
 {
     if symbology == 0 {
         return 3;

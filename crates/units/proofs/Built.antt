@@ -2,7 +2,8 @@
 --
 --   choicesOf     the row that each unit shows
 --   Built, built    what `put_parts` asks is met, and what it gives is the strip
---   Line, lines, by-line    so by the sets and the choices of each number
+--   Asked         what `build` asks
+--   Line, lines, by-line, own    so by the sets and the choices of each number
 --   letters, digits5, digits13    what Codabar, Interleaved and EAN-13 ask of their characters
 --   last          the two symbologies of the last arm
 --
@@ -47,31 +48,38 @@ pub record Line (k : ℕ) (sets : List (List ℕ)) (f : List ℕ → List ℕ) :
   pub rows : sets ≡ setsOf k
   pub shown : (r : List ℕ) → f r ≡ choicesOf k r
 
-module _ (s n : ℕ) (codes : List ℕ) (all : length codes ≡ places) (few : n ≤ places) (h : ready s (take n codes) ≡ true) where
+-- what `build` asks: a row of its symbology, and room for its strip
+abbrev pub Asked : ℕ → ℕ → List ℕ → List ℕ → Type 0
+Asked s n codes out =
+    ((length codes ≡ places) × ((n ≤ places) × (ready s (take n codes) ≡ true))) × (length (stripOf s (take n codes)) ≤ length out)
+
+module _ (s n : ℕ) (codes out : List ℕ) (p : Asked s n codes out) where
   number : length (take n codes) ≡ n
-  number = length-take-le n codes (omega arith)
+  number = length-take-le n codes (omega (arith, p .0 .0, p .0 .1 .0))
 
   pub number-counted : counted s n ≡ true
-  number-counted = rw number at (ready-counted s (take n codes) h)
+  number-counted = rw number at (ready-counted s (take n codes) (p .0 .1 .1))
 
-  pub built : (m : ℕ) (ch : List ℕ) (sets : List (List ℕ)) (out : List ℕ) → length (stripOf s (take n codes)) ≤ length out → sets ≡ setsOf s → length ch ≡ places → m ≤ places
-      → take m ch ≡ choicesOf s (take n codes) → Built s n codes ch sets out
+  pub built : (m : ℕ) (ch : List ℕ) (sets : List (List ℕ)) → sets ≡ setsOf s → length ch ≡ places → m ≤ places → take m ch ≡ choicesOf s (take n codes) → Built s n codes ch sets out
   unfolding stripOf
-  built m ch sets out l e long k t =
-      let f : Fits (unitsOf s n) (choicesOf s (take n codes)) = rw number at (ready-fits s (take n codes) h) in
+  built m ch sets e long k t =
+      let f : Fits (unitsOf s n) (choicesOf s (take n codes)) = rw number at (ready-fits s (take n codes) (p .0 .1 .1)) in
       let g : frees (unitsOf s n) ≡ m
       = sym (fits-long (unitsOf s n) (choicesOf s (take n codes)) f) ∙ ap length (sym t) ∙ length-take-le m ch (omega arith) in
       let w : strip (unitsOf s n) (take m ch) ≡ stripOf s (take n codes) = rw (t, number) refl in
       record {
-        asks = ((e, (long, rw g k)), (rw (g, t) f, rw (g, w) l));
+        asks = ((e, (long, rw g k)), (rw (g, t) f, rw (g, w) (p .1)));
         gives = λ u. u ∙ rw (g, w);
       }
 
-  -- by the line of the symbology's number
-  pub by-line : {k : ℕ} {table : List (List ℕ)} {f : List ℕ → List ℕ} → Line k table f → s ≡ k → (m : ℕ) (ch : List ℕ) (sets : List (List ℕ)) (out : List ℕ)
-      → length (stripOf s (take n codes)) ≤ length out → sets ≡ table → length ch ≡ places → m ≤ places → take m ch ≡ f (take n codes) → Built s n codes ch sets out
-  by-line {k} {table} {f} line e m ch sets out l t long few t₂ =
-      built m ch sets out l (t ∙ line .rows ∙ ap setsOf (sym e)) long few (t₂ ∙ line .shown (take n codes) ∙ ap (λ (x : ℕ). choicesOf x (take n codes)) (sym e))
+  -- by the line of the symbology's number; own, where the choices are the characters themselves
+  pub by-line : {k : ℕ} {table : List (List ℕ)} {f : List ℕ → List ℕ} → Line k table f → s ≡ k → (m : ℕ) (ch : List ℕ) (sets : List (List ℕ)) → sets ≡ table → length ch ≡ places
+      → m ≤ places → take m ch ≡ f (take n codes) → Built s n codes ch sets out
+  by-line {k} {table} {f} line e m ch sets t long few shown =
+      built m ch sets (t ∙ line .rows ∙ ap setsOf (sym e)) long few (shown ∙ line .shown (take n codes) ∙ ap (λ (x : ℕ). choicesOf x (take n codes)) (sym e))
+
+  pub own : {k : ℕ} {table : List (List ℕ)} → Line k table (λ r. r) → s ≡ k → (sets : List (List ℕ)) → sets ≡ table → Built s n codes codes sets out
+  own line e sets t = by-line line e n codes sets t (p .0 .0) (p .0 .1 .0) refl
 
 -- ---- by number
 
@@ -89,18 +97,18 @@ lines = (
   ),
 )
 
-pub letters : (n : ℕ) (codes : List ℕ) → length codes ≡ places → n ≤ places → ready 3 (take n codes) ≡ true → (3 ≤ n) × (allAllowed 3 true (take n codes) ≡ true)
-letters n codes all few h = (counted-codabar n (number-counted 3 n codes all few h) .0, ready-allowed 3 (take n codes) h)
+pub letters : (s n : ℕ) (codes out : List ℕ) → Asked s n codes out → s ≡ 3 → (3 ≤ n) × (allAllowed 3 true (take n codes) ≡ true)
+letters s n codes out p e = (counted-codabar n (rw e at (number-counted s n codes out p)) .0, ready-allowed 3 (take n codes) (rw e at (p .0 .1 .1)))
 
-pub digits5 : (r : List ℕ) → ready 5 r ≡ true → Below 10 r
+pub digits5 : (s : ℕ) (r : List ℕ) → ready s r ≡ true → s ≡ 5 → Below 10 r
 unfolding symbologyOf symbologies alphabetDigits table44
-digits5 r = ready-below 5 r refl
+digits5 s r h e = ready-below 5 r refl (rw e at h)
 
-pub digits13 : (n : ℕ) (codes : List ℕ) → length codes ≡ places → n ≤ places → ready 7 (take n codes) ≡ true → (n ≡ 13) × Below 10 (take 13 codes)
+pub digits13 : (s n : ℕ) (codes out : List ℕ) → Asked s n codes out → s ≡ 7 → (n ≡ 13) × Below 10 (take 13 codes)
 unfolding symbologyOf symbologies alphabetDigits table44
-digits13 n codes all few h =
-    let e : n ≡ 13 = counted-ean13 n (number-counted 7 n codes all few h) in
-    (e, rw e at (ready-below 7 (take n codes) refl h))
+digits13 s n codes out p e =
+    let n13 : n ≡ 13 = counted-ean13 n (rw e at (number-counted s n codes out p)) in
+    (n13, rw n13 at (ready-below 7 (take n codes) refl (rw e at (p .0 .1 .1))))
 
 pub last : (s n : ℕ) (r : List ℕ) → counted s n ≡ true → s ≢ 1 → s ≢ 2 → s ≢ 3 → s ≢ 4 → s ≢ 5 → s ≢ 6 → s ≢ 7 → (setsEan ≡ setsOf s) × (choicesOf s r ≡ r)
 unfolding setsOf symbologyOf symbologies

@@ -16,7 +16,7 @@ returns c =
     let a = s .args in
     let all : length (a .row .codes) ≡ places = search needs in
     let e = c .before .elements-of in
-    too-short (a .symbology) (a .row) (a .out .now) all (s .pre) (e .result) (e .ensures) (c .if1 .taken)
+    too-short (a .symbology) (a .row) (a .out .now) all (s .pre) (e .result) (e .ensures) (omega arith)
 
 build-requires : tie.Need-build-requires
 build-requires c κs =

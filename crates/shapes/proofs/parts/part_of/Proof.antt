@@ -15,7 +15,7 @@ use Rattle.symbologies.specs.Parts.{Part, halved}
 use Rattle.symbologies.specs.Symbologies.{symbologies, symbologyOf}
 use Rattle.shapes.specs.declared.parts.Part.{Part as Line}
 use Rattle.shapes.specs.Sets.{setsEan, setsOf}
-use Rattle.shapes.specs.Described.{isKnown, lineAt, halves, Describes}
+use Rattle.shapes.specs.Described.{lineAt, halves, Describes}
 use Rattle.shapes.proofs.Lines.{described}
 use Rattle.shapes.proofs.parts.part_of.Statement.{statement}
 use Rattle.shapes.proofs.parts.part_of.Tie as tie
@@ -44,11 +44,11 @@ abbrev eight : List ℕ
 eight = 8 ∷ 7 ∷ 6 ∷ 5 ∷ 4 ∷ 3 ∷ 2 ∷ 1 ∷ []
 
 -- the place of a part, for a number that is a symbology
-placed : (s k i at : ℕ) → at ≡ pick (isKnown s) i 3 → s ≡ k → isKnown k ≡ true → at ≡ i
+placed : (s k i at : ℕ) → at ≡ pick (symbologyOf s .limits .known) i 3 → s ≡ k → symbologyOf k .limits .known ≡ true → at ≡ i
 placed s k i at e q t = e ∙ rw (q, t) refl
 
 -- the last arm: UPC-A, or a number that is no symbology
-last : (s i at : ℕ) (r : Line) → at ≡ pick (isKnown s) i 3 → s < 256 → Off eight s → r ≡ lineAt (halves 6 10) at → Describes (setsOf s) (symbologyOf s .parts) i r
+last : (s i at : ℕ) (r : Line) → at ≡ pick (symbologyOf s .limits .known) i 3 → s < 256 → Off eight s → r ≡ lineAt (halves 6 10) at → Describes (setsOf s) (symbologyOf s .parts) i r
 unfolding setsOf symbologyOf symbologies lineAt
 last s i at r e h k q = go (ℕ-discrete s 9)
   where
@@ -56,8 +56,8 @@ last s i at r e h k q = go (ℕ-discrete s 9)
     go (yes n) = rw n (upca i r (rw (placed s 9 i at e n refl) at q))
     go (no n) =
         let none = stretch (9 ∷ eight) 0 256 (λ s. isEmpty (symbologyOf s .parts)) refl s (omega arith) h (k, n) in
-        let out = stretch (9 ∷ eight) 0 256 (λ s. not (isKnown s)) refl s (omega arith) h (k, n) in
-        let three : at ≡ 3 = e ∙ rw (not-true (isKnown s) out) refl in
+        let out = stretch (9 ∷ eight) 0 256 (λ s. not (symbologyOf s .limits .known)) refl s (omega arith) h (k, n) in
+        let three : at ≡ 3 = e ∙ rw (not-true (symbologyOf s .limits .known) out) refl in
         described (setsOf s) [] (symbologyOf s .parts) i r (rw three at q) (empty (symbologyOf s .parts) none) refl
 
 pub part-of-spec : {M : Type 1} → statement M
