@@ -1,4 +1,4 @@
-# Takes lines "time <draw|read> <symbology> <size> <side> <ns>", keeps the shortest of each and prints the tables.
+# Takes lines "time <draw|read|differ> <symbology> <size> <side> <ns>", keeps the shortest of each and prints the tables.
 
 BEGIN {
     split("Code 39,Code 39 full ASCII,Codabar,Industrial 2 of 5,Interleaved 2 of 5,Matrix 2 of 5,EAN-13,EAN-8,UPC-A", name, ",")
@@ -82,7 +82,8 @@ function means(what, heading, side,    j, size, r, p, words) {
 
 END {
     table("draw", "Drawing", "zint")
-    table("read", "Reading", "zbar")
+    table("read", "Reading, 16 labels over and over", "zbar")
+    table("differ", "Reading, 1,024 labels that differ", "")
     printf "\nGeometric means of the ratios\n\n"
     print "| | symbologies | labels, number | library by plain C | peer by plain C | library by peer |"
     print "|---|---|---|---:|---:|---:|"
@@ -90,6 +91,7 @@ END {
     means("draw", "drawing", "second")
     means("draw", "drawing", "zint")
     means("read", "reading", "plain")
+    means("differ", "reading labels that differ", "plain")
     means("read", "reading", "second")
     means("read", "reading", "zbar")
 }

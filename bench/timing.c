@@ -16,7 +16,9 @@
 #include <zbar.h>
 #endif
 
-#define LABELS 16
+/* labels of a work: a few, over and over, and many that differ, as a scanner sees them: no search can be learnt from those */
+#define FEW 16
+#define MANY 1024
 #define ROOM 339
 /* what a round of one side should last, in ns: short enough to fit between two interruptions */
 #define ROUND 40000.0
@@ -24,11 +26,11 @@
 struct label {
     uint8_t text[40], strip[ROOM];
     size_t len, count;
-    unsigned width[ROOM];
 };
 struct work {
     int symbology, mode, size; /* size 0 is short, 1 is long */
-    struct label label[LABELS];
+    struct label label[MANY];
+    unsigned width[FEW][ROOM]; /* the first labels' widths, for zbar */
 };
 static const char *const size_name[2] = { "short", "long" };
 static struct work works[15];
@@ -90,7 +92,7 @@ static void make_works(void)
             w->symbology = s;
             w->mode = s == 3 ? 0 : 2;
             w->size = size;
-            for (int i = 0; i < LABELS; i++) {
+            for (int i = 0; i < MANY; i++) {
                 struct label *l = &w->label[i];
                 uint8_t other[ROOM], back[40];
                 uint64_t a[4], b[4];
@@ -106,42 +108,42 @@ static void make_works(void)
                 plain_read((uint8_t)s, (uint8_t)w->mode, l->strip, l->count, back, sizeof back, b);
                 if (memcmp(a, b, sizeof a) || memcmp(back, l->text, l->len))
                     die("plain reading differs", s);
-                for (size_t k = 0; k < l->count; k++)
-                    l->width[k] = 4u * l->strip[k];
+                for (size_t k = 0; i < FEW && k < l->count; k++)
+                    w->width[i][k] = 4u * l->strip[k];
             }
         }
 }
 
-/* ---- the sides: each runs all labels of a work `turns` times and gives a sum that nobody can leave out ---- */
+/* ---- the sides: each runs the first `labels` of a work `turns` times and gives a sum that nobody can leave out ---- */
 
 typedef void call(uint8_t, uint8_t, const uint8_t *, size_t, uint8_t *, size_t, uint64_t *);
 
-static uint64_t draw_all(call *draw, const struct work *w, int turns)
+static uint64_t draw_all(call *draw, const struct work *w, int labels, int turns)
 {
     uint8_t out[ROOM];
     uint64_t a[4], sum = 0;
     for (int t = 0; t < turns; t++)
-        for (int i = 0; i < LABELS; i++) {
+        for (int i = 0; i < labels; i++) {
             draw((uint8_t)w->symbology, (uint8_t)w->mode, w->label[i].text, w->label[i].len, out, ROOM, a);
             sum += a[0] == 0;
         }
     return sum;
 }
-static uint64_t read_all(call *read, const struct work *w, int turns)
+static uint64_t read_all(call *read, const struct work *w, int labels, int turns)
 {
     uint8_t out[40];
     uint64_t a[4], sum = 0;
     for (int t = 0; t < turns; t++)
-        for (int i = 0; i < LABELS; i++) {
+        for (int i = 0; i < labels; i++) {
             read((uint8_t)w->symbology, (uint8_t)w->mode, w->label[i].strip, w->label[i].count, out, sizeof out, a);
             sum += a[0] == 0;
         }
     return sum;
 }
-static uint64_t draw_library(const struct work *w, int turns) { return draw_all(strip_draw, w, turns); }
-static uint64_t draw_plain(const struct work *w, int turns) { return draw_all(plain_draw, w, turns); }
-static uint64_t read_library(const struct work *w, int turns) { return read_all(strip_read, w, turns); }
-static uint64_t read_plain(const struct work *w, int turns) { return read_all(plain_read, w, turns); }
+static uint64_t draw_library(const struct work *w, int labels, int turns) { return draw_all(strip_draw, w, labels, turns); }
+static uint64_t draw_plain(const struct work *w, int labels, int turns) { return draw_all(plain_draw, w, labels, turns); }
+static uint64_t read_library(const struct work *w, int labels, int turns) { return read_all(strip_read, w, labels, turns); }
+static uint64_t read_plain(const struct work *w, int labels, int turns) { return read_all(plain_read, w, labels, turns); }
 
 #ifdef WITH_ZINT
 /* zint's nearest symbology and option 2 (1 adds a check character). No image is made; the symbol is made once. */
@@ -150,7 +152,7 @@ static const int zint_kind[10] = { 0, BARCODE_CODE39, BARCODE_EXCODE39, BARCODE_
 static const int zint_check[10] = { 0, 1, 1, 0, 1, 1, 1, 0, 0, 0 };
 static struct zint_symbol *symbol;
 
-static uint64_t draw_zint(const struct work *w, int turns)
+static uint64_t draw_zint(const struct work *w, int labels, int turns)
 {
     uint64_t sum = 0;
     if (!symbol)
@@ -159,7 +161,7 @@ static uint64_t draw_zint(const struct work *w, int turns)
     symbol->option_2 = zint_check[w->symbology];
     symbol->input_mode = DATA_MODE;
     for (int t = 0; t < turns; t++)
-        for (int i = 0; i < LABELS; i++) {
+        for (int i = 0; i < labels; i++) {
             ZBarcode_Clear(symbol);
             sum += ZBarcode_Encode(symbol, w->label[i].text, (int)w->label[i].len) < ZINT_ERROR;
         }
@@ -185,31 +187,31 @@ static zbar_decoder_t *decoder_for(int s)
     }
     return decoders[s];
 }
-static int decode(zbar_decoder_t *d, const struct label *l)
+static int decode(zbar_decoder_t *d, const struct work *w, int label)
 {
     int seen = 0;
     zbar_decoder_new_scan(d);
     zbar_decode_width(d, 80);
-    for (size_t i = 0; i < l->count; i++)
-        seen |= zbar_decode_width(d, l->width[i]) > ZBAR_PARTIAL;
+    for (size_t i = 0; i < w->label[label].count; i++)
+        seen |= zbar_decode_width(d, w->width[label][i]) > ZBAR_PARTIAL;
     seen |= zbar_decode_width(d, 80) > ZBAR_PARTIAL;
     return seen;
 }
-static uint64_t read_zbar(const struct work *w, int turns)
+static uint64_t read_zbar(const struct work *w, int labels, int turns)
 {
     zbar_decoder_t *d = decoder_for(w->symbology);
     uint64_t sum = 0;
     for (int t = 0; t < turns; t++)
-        for (int i = 0; i < LABELS; i++)
-            sum += (uint64_t)decode(d, &w->label[i]);
+        for (int i = 0; i < labels; i++)
+            sum += (uint64_t)decode(d, w, i);
     return sum;
 }
 static void check_zbar(const struct work *w)
 {
     zbar_decoder_t *d = decoder_for(w->symbology);
-    for (int i = 0; i < 2 * LABELS; i++) {
-        const struct label *l = &w->label[i % LABELS];
-        const char *data = decode(d, l) ? zbar_decoder_get_data(d) : "";
+    for (int i = 0; i < 2 * FEW; i++) {
+        const struct label *l = &w->label[i % FEW];
+        const char *data = decode(d, w, i % FEW) ? zbar_decoder_get_data(d) : "";
         if (strncmp(data, (const char *)l->text, l->len)) {
             fprintf(stderr, "timing: zbar read '%s' for '%.*s'\n", data, (int)l->len, l->text);
             die("zbar does not read the label", w->symbology);
@@ -220,8 +222,8 @@ static void check_zbar(const struct work *w)
 
 struct side {
     const char *name, *what;
-    uint64_t (*run)(const struct work *, int);
-    int turns;
+    uint64_t (*run)(const struct work *, int, int);
+    int labels, turns;
     double best;
 };
 
@@ -235,10 +237,10 @@ static double now(void)
 static double once(const struct side *s, const struct work *w, int turns)
 {
     double from = now();
-    uint64_t good = s->run(w, turns);
+    uint64_t good = s->run(w, s->labels, turns);
     double took = now() - from;
-    if (good != (uint64_t)turns * LABELS) {
-        fprintf(stderr, "timing: %s did %lu of %d\n", s->name, (unsigned long)good, turns * LABELS);
+    if (good != (uint64_t)turns * (uint64_t)s->labels) {
+        fprintf(stderr, "timing: %s did %lu of %d\n", s->name, (unsigned long)good, turns * s->labels);
         die("a label was refused", w->symbology);
     }
     return took;
@@ -258,7 +260,7 @@ static void time_sides(struct side *sides, int n, const struct work *w, int roun
     }
     for (int r = 0; r < rounds; r++)
         for (int i = 0; i < n; i++) {
-            double t = once(&sides[i], w, sides[i].turns) / (sides[i].turns * LABELS);
+            double t = once(&sides[i], w, sides[i].turns) / (sides[i].turns * sides[i].labels);
             if (t < sides[i].best)
                 sides[i].best = t;
         }
@@ -272,7 +274,7 @@ int main(int argc, char **argv)
     make_works();
     if (argc > 1 && !strcmp(argv[1], "labels")) {
         for (int k = 0; k < work_count; k++)
-            for (int i = 0; i < LABELS; i++) {
+            for (int i = 0; i < FEW; i++) {
                 const struct label *l = &works[k].label[i];
                 printf("%d %d %s ", works[k].symbology, works[k].mode, size_name[works[k].size]);
                 for (size_t j = 0; j < l->len; j++)
@@ -288,18 +290,22 @@ int main(int argc, char **argv)
     for (int k = 0; k < work_count; k++) {
         const struct work *w = &works[k];
         struct side drawing[] = {
-            { "library", "draw", draw_library, 0, 0 },
-            { "plain", "draw", draw_plain, 0, 0 },
+            { "library", "draw", draw_library, FEW, 0, 0 },
+            { "plain", "draw", draw_plain, FEW, 0, 0 },
 #ifdef WITH_ZINT
-            { "zint", "draw", draw_zint, 0, 0 },
+            { "zint", "draw", draw_zint, FEW, 0, 0 },
 #endif
         };
         struct side reading[] = {
-            { "library", "read", read_library, 0, 0 },
-            { "plain", "read", read_plain, 0, 0 },
+            { "library", "read", read_library, FEW, 0, 0 },
+            { "plain", "read", read_plain, FEW, 0, 0 },
 #ifdef WITH_ZBAR
-            { "zbar", "read", read_zbar, 0, 0 },
+            { "zbar", "read", read_zbar, FEW, 0, 0 },
 #endif
+        };
+        struct side differing[] = {
+            { "library", "differ", read_library, MANY, 0, 0 },
+            { "plain", "differ", read_plain, MANY, 0, 0 },
         };
         int readers = (int)(sizeof reading / sizeof reading[0]);
 #ifdef WITH_ZBAR
@@ -310,6 +316,7 @@ int main(int argc, char **argv)
 #endif
         time_sides(drawing, (int)(sizeof drawing / sizeof drawing[0]), w, rounds);
         time_sides(reading, readers, w, rounds);
+        time_sides(differing, (int)(sizeof differing / sizeof differing[0]), w, rounds);
     }
     return 0;
 }
