@@ -130,29 +130,32 @@ module _ (s m : ℕ) (codes : List ℕ) (n : ℕ) (p : (m < 3) × (((added m < n
 
 -- ---- 1, 2, 9
 
-module _ (s m : ℕ) (row : Row) where
+module _ (s m : ℕ) (codes : List ℕ) (n : ℕ) where
+  abbrev row : Row
+  row = record { codes = codes; len = n }
+
   abbrev counts : List Check
-  counts = countChecks (symbologyOf s) m (row .len)
+  counts = countChecks (symbologyOf s) m n
 
-  behind-count : dataOfRow s m row ≡ firstOf turned counts (readData (symbologyOf s) m (take (row .len) (row .codes)))
+  behind-count : dataOfRow s m row ≡ firstOf turned counts (readData (symbologyOf s) m (take n codes))
   unfolding dataOfRow dataOfCount readData
-  behind-count = first-append turned counts (dataChecks (symbologyOf s) m (take (row .len) (row .codes))) (gives (dataRead (symbologyOf s) m (take (row .len) (row .codes))))
+  behind-count = first-append turned counts (dataChecks (symbologyOf s) m (take n codes)) (gives (dataRead (symbologyOf s) m (take n codes)))
 
-  pub count-turned : (a : Answer) → judgedCount s m (row .len) ≡ VerdictTurned a → dataOfRow s m row ≡ turned a
+  pub count-turned : (a : Answer) → judgedCount s m n ≡ VerdictTurned a → dataOfRow s m row ≡ turned a
   unfolding judgedCount
-  count-turned a e = behind-count ∙ judged-turned turned counts a (readData (symbologyOf s) m (take (row .len) (row .codes))) e
+  count-turned a e = behind-count ∙ judged-turned turned counts a (readData (symbologyOf s) m (take n codes)) e
 
-  module _ (e : judgedCount s m (row .len) ≡ Given) where
+  module _ (e : judgedCount s m n ≡ Given) where
     passed : None counts
     unfolding judgedCount
     passed = judged-none counts e
 
-    pub count-given : dataOfRow s m row ≡ readData (symbologyOf s) m (take (row .len) (row .codes))
-    count-given = behind-count ∙ none-on turned counts (readData (symbologyOf s) m (take (row .len) (row .codes))) passed
+    pub count-given : dataOfRow s m row ≡ readData (symbologyOf s) m (take n codes)
+    count-given = behind-count ∙ none-on turned counts (readData (symbologyOf s) m (take n codes)) passed
 
-    pub count-fits : (m < 3) × ((added m < row .len) × (row .len ≤ places))
+    pub count-fits : (m < 3) × ((added m < n) × (n ≤ places))
     count-fits =
         let c : Counts (symbologyOf s) m = proper s .counts m (not-false _ (passed .1 .0)) in
-        let h : holds (symbologyOf s .limits) m (row .len - added m) ≡ true = both-left _ (not (odd (symbologyOf s .limits) (row .len))) (not-false _ (passed .1 .1 .0)) in
-        let g = held (symbologyOf s .limits) m (row .len - added m) h in
+        let h : holds (symbologyOf s .limits) m (n - added m) ≡ true = both-left _ (not (odd (symbologyOf s .limits) n)) (not-false _ (passed .1 .1 .0)) in
+        let g = held (symbologyOf s .limits) m (n - added m) h in
         (c .mode, (omega (arith, c .some, g .0), omega (arith, c .some, c .cap, g .0, g .1, proper s .small)))

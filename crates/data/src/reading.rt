@@ -2,7 +2,6 @@
 use super::items;
 use symbologies::judging;
 use symbologies::judging::Verdict;
-use symbologies::row::Row;
 use symbologies::sizes::PLACES;
 use words::Answer;
 use words::Bytes;
@@ -55,14 +54,14 @@ fn hand_over(symbology: u8, mode: u8, codes: &[u8; PLACES], n: usize, out: &mut 
     Handed::Data(Bytes(bytes))
 }
 
-// The data of a row, in the lent buffer.
-pub fn data_of(symbology: u8, mode: u8, row: Row, out: &mut [u8]) -> Handed
-    ensures { λ r. ⌜ r ≡ handedOf (dataOfRow symbology mode row) (length (now (out .entry))) ⌝ }
-    ensures { λ _. ⌜ now (out .exit) ≡ written (dataOfRow symbology mode row) (now (out .entry)) ⌝ }
+// The data of a row of n characters, in the lent buffer.
+pub fn data_of(symbology: u8, mode: u8, codes: &[u8; PLACES], n: usize, out: &mut [u8]) -> Handed
+    requires { ⌜ length (now codes) ≡ places ⌝ }
+    ensures { λ r. ⌜ r ≡ handedOf (dataOfRow symbology mode (record { codes = now (codes .entry); len = n })) (length (now (out .entry))) ⌝ }
+    ensures { λ _. ⌜ now (out .exit) ≡ written (dataOfRow symbology mode (record { codes = now (codes .entry); len = n })) (now (out .entry)) ⌝ }
 {
-    let codes = row.codes;
-    match judging::judge_count(symbology, mode, row.len) {
+    match judging::judge_count(symbology, mode, n) {
         Verdict::Turned(answer) => Handed::Turned(answer),
-        Verdict::Given => hand_over(symbology, mode, &codes, row.len, out),
+        Verdict::Given => hand_over(symbology, mode, codes, n, out),
     }
 }

@@ -1,13 +1,8 @@
-pub mod Packing
-pub mod Modules
-pub mod Widths
-pub mod Weaving
-pub mod Numbered
-pub mod Seeking
-pub mod Gathering
-pub mod Walking
-pub mod Hand
-pub mod Pieces
+mod Pieces
+mod Hand
+pub mod Units
+pub mod Rows
+pub mod Parts
 pub mod Characters
 pub mod Seeing
 pub mod Only

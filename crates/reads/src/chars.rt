@@ -1,89 +1,51 @@
-// The drawn characters, from the rows that the free units show.
-use super::gather;
-use symbologies::row::Row;
+// The way back from the rows that the units show to the drawn characters, in the lent places.
 use symbologies::sizes::PLACES;
 ghost use mathlib.Core.Path.{_≡_};
-ghost use Prim.Native.Nat.{ℕ, _<_, _≤_};
-ghost use Rattle.tables.specs.Ean.{firstDigit};
+ghost use Prim.Native.Nat.{ℕ, _+_, _*_, _/_, _%_, _<_, _≤_};
+ghost use lib.ListN.{length, getD};
 ghost use Rattle.symbologies.specs.Sizes.{places};
-ghost use Rattle.symbologies.specs.Parts.{paritiesIn, letterAt, digitAt, sideAt};
-ghost use Rattle.symbologies.specs.Symbologies.{symbologyOf};
-ghost use Rattle.symbologies.specs.Strips.{charsOf};
-ghost use Rattle.symbologies.specs.Told.{rowIn};
-ghost use Rattle.reads.specs.Held.{valueAt};
+ghost use Rattle.symbologies.specs.Parts.{paritiesIn};
+ghost use Rattle.reads.specs.Walk.{rowOf, shownIn};
 
-// EAN-13: the sets of the six left units, D2's the highest bit.
-pub fn parities(words: [u64; 5]) -> u16
-    requires { ⌜ ((i : ℕ) → valueAt words i < 100) ⌝ }
-    ensures { λ r. ⌜ r ≡ paritiesIn (valueAt words) ⌝ }
+// Codabar: the letters of both ends are the values 16 to 19.
+pub fn letters(codes: &mut [u8; PLACES], n: usize)
+    requires { ⌜ (length (now codes) ≡ places) × ((2 ≤ n) × ((n ≤ places) × ((i : ℕ) → getD (now codes) i 0 < 100))) ⌝ }
+    requires { ⌜ ((i : ℕ) → n ≤ i → getD (now codes) i 0 ≡ 0) ⌝ }
+    ensures { λ _. ⌜ now (codes .exit) ≡ rowOf 3 n (shownIn 3 (now (codes .entry))) ⌝ }
+{
+    codes[0] = codes[0] + 16;
+    codes[n - 1] = codes[n - 1] + 16;
+}
+
+// Interleaved: a row is two digits, and the last one goes first, so that none is lost.
+pub fn pairs(codes: &mut [u8; PLACES], n: usize)
+    requires { ⌜ (length (now codes) ≡ places) × ((n ≤ places) × (n ≡ 2 * (n / 2))) ⌝ }
+    requires { ⌜ ((i : ℕ) → n ≤ i + i → getD (now codes) i 0 ≡ 0) ⌝ }
+    ensures { λ _. ⌜ now (codes .exit) ≡ rowOf 5 n (shownIn 5 (now (codes .entry))) ⌝ }
+{
+    let mut i = n / 2;
+    while 0 < i {
+        i -= 1;
+        let row = codes[i];
+        codes[2 * i] = row / 10;
+        codes[2 * i + 1] = row % 10;
+    }
+}
+
+// EAN-13: the sets of the six left units, D2's the highest bit; their digits stay, and the right units' are digits already.
+pub fn sides(codes: &mut [u8; PLACES]) -> u16
+    requires { ⌜ (length (now codes) ≡ places) × ((i : ℕ) → getD (now codes) i 0 < 100) ⌝ }
+    requires { ⌜ (getD (now codes) 0 0 < 10) × ((i : ℕ) → 7 ≤ i → getD (now codes) i 0 < 10) ⌝ }
+    ensures { λ r. ⌜ r ≡ paritiesIn (shownIn 7 (now (codes .entry))) ⌝ }
+    ensures { λ _. ⌜ (length (now (codes .exit)) ≡ places) × ((i : ℕ) → getD (now (codes .exit)) i 0 ≡ getD (now (codes .entry)) i 0 % 10) ⌝ }
 {
     let mut bits = 0;
-    let mut i = 0;
-    while i < 6 {
-        bits = bits * 2 + (gather::value_at(words, i) / 10) as u16;
+    let mut i = 1;
+    while i < 7 {
+        let row = codes[i];
+        bits = bits * 2 + (row / 10) as u16;
+        codes[i] = row % 10;
         i += 1;
     }
     bits
-}
-
-// Codabar: the letters of both ends are the values 16 to 19.
-fn letter(words: [u64; 5], n: usize, j: usize) -> u8
-    requires { ⌜ ((i : ℕ) → valueAt words i < 100) × ((j < places) × (n ≤ places)) ⌝ }
-    ensures { λ r. ⌜ r ≡ letterAt n (valueAt words) j ⌝ }
-{
-    let value = gather::value_at(words, j);
-    if j == 0 {
-        return value + 16;
-    }
-    if j + 1 == n {
-        return value + 16;
-    }
-    value
-}
-
-// Interleaved: a row is two digits, however many characters there are.
-fn digit(words: [u64; 5], j: usize) -> u8
-    requires { ⌜ j < places ⌝ }
-    ensures { λ r. ⌜ r ≡ digitAt 0 (valueAt words) j ⌝ }
-{
-    let value = gather::value_at(words, j / 2);
-    if j % 2 == 0 { value / 10 } else { value % 10 }
-}
-
-// EAN-13: the first digit is in the parities, the others are digits of either set. There is one number of characters.
-fn side(words: [u64; 5], first: u8, j: usize) -> u8
-    requires { ⌜ (first ≡ firstDigit (paritiesIn (valueAt words))) × (j < places) ⌝ }
-    ensures { λ r. ⌜ r ≡ sideAt 0 (valueAt words) j ⌝ }
-{
-    if j == 0 {
-        return first;
-    }
-    gather::value_at(words, j - 1) % 10
-}
-
-// The character at place j of n.
-fn char_of(symbology: u8, n: usize, words: [u64; 5], first: u8, j: usize) -> u8
-    requires { ⌜ ((i : ℕ) → valueAt words i < 100) × ((symbology ≡ 7 → first ≡ firstDigit (paritiesIn (valueAt words))) × ((j < places) × (n ≤ places))) ⌝ }
-    ensures { λ r. ⌜ r ≡ symbologyOf symbology .shows .char n (valueAt words) j ⌝ }
-{
-    match symbology {
-        3 => letter(words, n, j),
-        5 => digit(words, j),
-        7 => side(words, first, j),
-        _ => gather::value_at(words, j),
-    }
-}
-
-// The row of n characters.
-pub fn row_back(symbology: u8, n: usize, words: [u64; 5], first: u8) -> Row
-    requires { ⌜ ((i : ℕ) → valueAt words i < 100) × ((symbology ≡ 7 → first ≡ firstDigit (paritiesIn (valueAt words))) × (n ≤ places)) ⌝ }
-    ensures { λ r. ⌜ r ≡ rowIn (charsOf symbology n (valueAt words)) ⌝ }
-{
-    let mut codes = [0; PLACES];
-    let mut j = 0;
-    while j < n {
-        codes[j] = char_of(symbology, n, words, first, j);
-        j += 1;
-    }
-    Row { codes, len: n }
 }

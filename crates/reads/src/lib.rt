@@ -1,87 +1,80 @@
 // Strip to row: the second of the two translations, its reading half (document 01, "Units and working room").
 //
-// `row_seen` hands back the drawn characters of a strip, or turns it away with the first of 1, 2, 9, 10, 11 that applies. The
-// strip's length gives the count of characters and with it the units; they are tested left to right, and the first that is in no
-// row ends the walk.
+// `row_seen` hands back the drawn characters of a strip in lent places, or turns it away with the first of 1, 2, 9, 10, 11 that applies.
+// The strip's length gives the count of characters; with it the symbology's parts say which units stand where. They are tested left to
+// right, and the first that is in no row ends the walk.
 //
-//   counts      units from characters
-//   kinds       which unit stands where
-//   pack        a unit's elements packed to its code
-//   search      the plain core: what is sought at a place of the strip, and whether a row is it
-//   position    the reading position, a struct of slice and place, and thin functions over the core
-//   walk        the loop over units, which hands the position from unit to unit, and in it the search over rows
-//   gather      the row numbers on the way
-//   chars       characters from row numbers
+//   position    the reading position, a struct of slice and place, and thin functions over the plain core (crate search)
+//   walk        the loop over a part's units, which hands the position from unit to unit, and in it the search over rows
+//   chars       characters from the rows that the units show
 mod chars;
-mod counts;
-mod gather;
-mod kinds;
-mod pack;
 mod position;
-mod search;
 mod walk;
 
 use symbologies::judging;
 use symbologies::judging::Verdict;
 use symbologies::lengths;
 use symbologies::row;
-use symbologies::row::Row;
-use symbologies::row::Rowed;
+use symbologies::row::Filled;
+use symbologies::sizes::PLACES;
 use words::Answer;
 ghost use mathlib.Core.Path.{_≡_};
+ghost use mathlib.Core.Bool.{true};
+ghost use mathlib.Core.List.{[]};
 ghost use Prim.Native.Nat.{ℕ, _<_, _≤_};
+ghost use lib.ListN.{length, getD};
 ghost use Rattle.laws.specs.Units.{read};
-ghost use Rattle.symbologies.specs.declared.judging.Verdict.the-variants.{Given};
 ghost use Rattle.symbologies.specs.Sizes.{places};
-ghost use Rattle.symbologies.specs.Strips.{unitsOf, rowSeen};
-ghost use Rattle.symbologies.specs.Told.{told};
-ghost use Rattle.reads.specs.Held.{valueAt, rowFrom, shown};
+ghost use Rattle.symbologies.specs.Strips.{unitsOf, counted, rowSeen};
+ghost use Rattle.symbologies.specs.Told.{pad, told, filledAs};
+ghost use Rattle.reads.specs.Walk.{rowFrom, shown, shownIn};
 
-// The row of a strip.
-pub fn row_seen(symbology: u8, mode: u8, strip: &[u8]) -> Rowed
-    ensures { λ r. ⌜ r ≡ told (rowSeen symbology mode (now (strip .entry))) ⌝ }
+// The row of a strip, in the lent places.
+pub fn row_seen(symbology: u8, mode: u8, strip: &[u8], codes: &mut [u8; PLACES]) -> Filled
+    ensures { λ r. ⌜ filledAs r (now (codes .exit)) ≡ told (rowSeen symbology mode (now (strip .entry))) ⌝ }
 {
+    *codes = [0; PLACES];
     let n = lengths::count_for(symbology, strip.len());
     match judging::judge_count(symbology, mode, n) {
-        Verdict::Turned(answer) => row::turn_away(answer),
-        Verdict::Given => read_strip(symbology, n, strip),
+        Verdict::Turned(answer) => row::refuse(answer, codes),
+        Verdict::Given => read_strip(symbology, n, strip, codes),
     }
 }
 
 // 10, 11, or the row of n characters.
-fn read_strip(symbology: u8, n: usize, strip: &[u8]) -> Rowed
-    requires { ⌜ n ≤ places ⌝ }
-    ensures { λ r. ⌜ r ≡ told (shown symbology n (read (unitsOf symbology n) (now (strip .entry)))) ⌝ }
+fn read_strip(symbology: u8, n: usize, strip: &[u8], codes: &mut [u8; PLACES]) -> Filled
+    requires { ⌜ (counted symbology n ≡ true) × (now codes ≡ pad places []) ⌝ }
+    ensures { λ r. ⌜ filledAs r (now (codes .exit)) ≡ told (shown symbology n (read (unitsOf symbology n) (now (strip .entry)))) ⌝ }
 {
-    let walked = walk::read_all(strip, symbology, counts::unit_count(symbology, n));
+    let walked = walk::read_all(strip, symbology, n, codes);
     let at = walked.at;
     if 0 < walked.left {
-        return row::turn_away(Answer::NoSuchUnit(at));
+        return row::refuse(Answer::NoSuchUnit(at), codes);
     }
-    let gathered = walked.gathered;
-    judge(symbology, n, gather::words_of(gathered))
-}
-
-// 11, or the row.
-fn judge(symbology: u8, n: usize, words: [u64; 5]) -> Rowed
-    requires { ⌜ ((i : ℕ) → valueAt words i < 100) × (n ≤ places) ⌝ }
-    ensures { λ r. ⌜ r ≡ told (rowFrom symbology n (valueAt words)) ⌝ }
-{
-    if symbology == 7 {
-        let first = tables::ean::first_digit(chars::parities(words));
-        if 9 < first {
-            return row::turn_away(Answer::NoSuchParities);
+    match symbology {
+        3 => {
+            chars::letters(codes, n);
+            row::give(n)
         }
-        return give(chars::row_back(symbology, n, words, first));
+        5 => {
+            chars::pairs(codes, n);
+            row::give(n)
+        }
+        7 => see_first(codes, n),
+        _ => row::give(n),
     }
-    give(chars::row_back(symbology, n, words, 0))
 }
 
-fn give(row: Row) -> Rowed
-    ensures { λ r. ⌜ r ≡ record { verdict = Given; row = row } ⌝ }
+// EAN-13: 11, or the row, whose first digit stands in the sets of the left units.
+fn see_first(codes: &mut [u8; PLACES], n: usize) -> Filled
+    requires { ⌜ (n ≡ 13) × ((length (now codes) ≡ places) × ((i : ℕ) → getD (now codes) i 0 < 100)) ⌝ }
+    requires { ⌜ (getD (now codes) 0 0 < 10) × (((i : ℕ) → 7 ≤ i → getD (now codes) i 0 < 10) × ((i : ℕ) → 13 ≤ i → getD (now codes) i 0 ≡ 0)) ⌝ }
+    ensures { λ r. ⌜ filledAs r (now (codes .exit)) ≡ told (rowFrom 7 n (shownIn 7 (now (codes .entry)))) ⌝ }
 {
-    Rowed {
-        verdict: Verdict::Given,
-        row,
+    let first = tables::ean::first_digit(chars::sides(codes));
+    if 9 < first {
+        return row::refuse(Answer::NoSuchParities, codes);
     }
+    codes[0] = first;
+    row::give(n)
 }

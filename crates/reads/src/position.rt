@@ -1,23 +1,24 @@
 // The reading position: one place over the scanner's strip, handed from unit to unit. Thin functions over the plain core.
-use super::search;
-use super::search::Sought;
+use search::seek;
+use search::seek::Sought;
+use shapes::parts::Unit;
 use words::ElementPlace;
 ghost use mathlib.Core.Path.{_≡_};
-ghost use Rattle.reads.specs.Held.{unitOf, soughtOf};
+ghost use mathlib.Core.Bool.{true};
+ghost use lib.ListN.{length};
+ghost use Rattle.shapes.specs.Searched.{seekable};
+ghost use Rattle.search.specs.Sought.{soughtOf};
 
 pub struct Position<'a> {
     pub strip: &'a [u8],
     pub at: ElementPlace,
 }
 
-// The strip's first element.
-pub fn start<'a>(strip: &'a [u8]) -> Position<'a>
-    ensures { λ r. ⌜ (r .strip ≡ strip .entry) × (r .at .0 ≡ 0) ⌝ }
+// A place of a strip.
+pub fn placed<'a>(strip: &'a [u8], at: ElementPlace) -> Position<'a>
+    ensures { λ r. ⌜ (r .strip ≡ strip .entry) × (r .at ≡ at) ⌝ }
 {
-    Position {
-        strip,
-        at: ElementPlace(0),
-    }
+    Position { strip, at }
 }
 
 pub fn here<'a>(p: Position<'a>) -> ElementPlace
@@ -26,11 +27,12 @@ pub fn here<'a>(p: Position<'a>) -> ElementPlace
     p.at
 }
 
-// What is sought there, where `left` of `units` are not yet read.
-pub fn sought<'a>(p: Position<'a>, symbology: u8, units: usize, left: usize) -> Sought
-    ensures { λ r. ⌜ r ≡ soughtOf (unitOf symbology units left) (now (p .entry .strip)) (p .entry .at .0) ⌝ }
+// What is sought there, where a unit should stand.
+pub fn sought<'a>(p: Position<'a>, sets: &'a [[u64; 10]], unit: Unit) -> Sought
+    requires { ⌜ seekable (length (now sets)) unit ≡ true ⌝ }
+    ensures { λ r. ⌜ r ≡ soughtOf (now (sets .entry)) unit (now (p .entry .strip)) (p .entry .at .0) ⌝ }
 {
-    search::sought_at(p.strip, p.at, symbology, units, left)
+    seek::sought_at(sets, p.strip, p.at, unit)
 }
 
 // The position at another place of the same strip.

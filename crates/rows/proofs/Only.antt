@@ -3,14 +3,10 @@
 use mathlib.Core.Path.{ap}
 use Rattle.laws.specs.One.{One, OneBuffer}
 use Rattle.laws.proofs.Only.{only}
-use Rattle.symbologies.specs.declared.row.Rowed.{Rowed}
-use Rattle.rows.specs.declared.drawing.Filled.{Filled}
+use Rattle.symbologies.specs.Told.{Rowed}
+use Rattle.symbologies.proofs.Only.{filled}
 use Rattle.rows.proofs.drawing.row_of_field.Reads as RowOfField
 use Rattle.rows.proofs.drawing.row_of_field.Kinds as RowOfFieldKinds
-
--- the answer of an outcome as the code holds it
-abbrev filled : Rowed → Filled
-filled w = record { verdict = w .verdict; len = w .row .len }
 
 pub row-of-field : One 2 RowOfFieldKinds.ps RowOfFieldKinds.r RowOfField.Learnt
 row-of-field κs a p q x y h k = ap filled (only h k)

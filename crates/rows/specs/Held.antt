@@ -2,7 +2,6 @@
 --
 --   pushed, putAll   a row with one character more, and with several
 --   SpelledAs        what data spell, as the code holds it: how far it came, the row and its sum
---   filledAs         an outcome as the code holds it: verdict, number and the lent places
 --   closedRow, finishedRow, filledRow    the row of what was spelled, behind 7, behind 5, 6, 7, and of data, behind 4, 5, 6, 7
 use mathlib.Core.Path.{_≡_}
 use mathlib.Core.List.{List, [], _∷_}
@@ -11,13 +10,11 @@ use lib.ListN.{length, set}
 use Rattle.laws.specs.Units.{found, stopped}
 use Rattle.words.specs.Order.{check, Outcome, outcome}
 use Rattle.symbologies.specs.declared.row.Row.{Row}
-use Rattle.symbologies.specs.declared.row.Rowed.{Rowed}
 use Rattle.symbologies.specs.Symbologies.{Symbology}
 use Rattle.symbologies.specs.Rows.{wrong, wrongAt, spelled, drawnOf, rowDrawn, closing, textChecks}
 use Rattle.symbologies.specs.Told.{rowIn}
 use Rattle.sums.specs.Sums.{othersIn, Checks}
 use Rattle.rows.specs.declared.spelling.Spelled.{Spelled}
-use Rattle.rows.specs.declared.drawing.Filled.{Filled}
 
 -- a store past the places changes nothing
 abbrev pub pushed : Row → ℕ → Row
@@ -37,9 +34,6 @@ pub record SpelledAs (y : Symbology) (m : ℕ) (text : List ℕ) (r : Spelled) (
   pub all : (h : List ℕ) → spelled y m text ≡ found h → SpelledAll y m text h r codes
 
 -- ---- what the calls answer
-
-abbrev pub filledAs : Filled → List ℕ → Rowed
-filledAs f codes = record { verdict = f .verdict; row = record { codes = codes; len = f .len } }
 
 unfoldable pub closedRow : Symbology → ℕ → List ℕ → Outcome
 closedRow y m h = outcome (check (wrong y m (drawnOf y m h)) (wrongAt y (drawnOf y m h)) ∷ []) (drawnOf y m h)

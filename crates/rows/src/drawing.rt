@@ -3,6 +3,8 @@ use super::spelling;
 use sums::Sum;
 use symbologies::judging;
 use symbologies::judging::Verdict;
+use symbologies::row;
+use symbologies::row::Filled;
 use symbologies::sizes::PLACES;
 use words::Answer;
 use words::CharPlace;
@@ -10,43 +12,14 @@ ghost use mathlib.Core.Path.{_≡_};
 ghost use mathlib.Core.List.{List, []};
 ghost use Prim.Native.Nat.{ℕ, _+_, _<_, _≤_};
 ghost use lib.ListN.{length};
-ghost use Rattle.words.specs.Order.{turned};
 ghost use Rattle.symbologies.specs.Sizes.{places};
 ghost use Rattle.laws.specs.Rules.{checkOf};
-ghost use Rattle.symbologies.specs.declared.judging.Verdict.the-variants.{Given};
 ghost use Rattle.symbologies.specs.Limits.{added};
-ghost use Rattle.symbologies.specs.Told.{pad, rowIn, told};
+ghost use Rattle.symbologies.specs.Told.{pad, rowIn, told, filledAs};
 ghost use Rattle.symbologies.specs.Symbologies.{Symbology, symbologyOf};
 ghost use Rattle.symbologies.specs.Rows.{rowOfField};
 ghost use Rattle.sums.specs.Sums.{othersIn, Checks};
-ghost use Rattle.rows.specs.Held.{filledAs, closedRow, finishedRow, filledRow};
-
-// Whether the lent places hold a row, and how many characters it has; where it is turned away they hold none.
-pub struct Filled {
-    pub verdict: Verdict,
-    pub len: usize,
-}
-
-// An answer; the places are cleared.
-fn refuse(answer: Answer, codes: &mut [u8; PLACES]) -> Filled
-    ensures { λ r. ⌜ filledAs r (now (codes .exit)) ≡ told (turned answer) ⌝ }
-{
-    *codes = [0; PLACES];
-    Filled {
-        verdict: Verdict::Turned(answer),
-        len: 0,
-    }
-}
-
-// A row of so many characters.
-fn give(len: usize) -> Filled
-    ensures { λ r. ⌜ r ≡ record { verdict = Given; len = len } ⌝ }
-{
-    Filled {
-        verdict: Verdict::Given,
-        len,
-    }
-}
+ghost use Rattle.rows.specs.Held.{closedRow, finishedRow, filledRow};
 
 // The drawn characters: mode 2 adds the check.
 fn drawn_count(mode: u8, len: usize) -> usize
@@ -62,16 +35,16 @@ fn close(mode: u8, len: usize, right: u8, codes: &mut [u8; PLACES]) -> Filled
     ensures { λ r. ⌜ ((y : Symbology) (h : List ℕ) → y .rule .behind ≡ 0 → record { codes = now (codes .entry); len = len } ≡ rowIn h → right ≡ checkOf (y .rule) (othersIn mode h) → filledAs r (now (codes .exit)) ≡ told (closedRow y mode h)) ⌝ }
 {
     if mode == 0 {
-        return give(len);
+        return row::give(len);
     }
     if mode == 1 {
         if codes[len - 1] != right {
-            return refuse(Answer::BadCheck(CharPlace(len - 1)), codes);
+            return row::refuse(Answer::BadCheck(CharPlace(len - 1)), codes);
         }
-        return give(len);
+        return row::give(len);
     }
     codes[len] = right;
-    give(len + 1)
+    row::give(len + 1)
 }
 
 // 5, 6, 7, and then the row.
@@ -80,7 +53,7 @@ fn finish(symbology: u8, mode: u8, len: usize, sum: Sum, codes: &mut [u8; PLACES
     ensures { λ r. ⌜ ((h : List ℕ) → record { codes = now (codes .entry); len = len } ≡ rowIn h → Checks (symbologyOf symbology .rule) (othersIn mode h) sum → filledAs r (now (codes .exit)) ≡ told (finishedRow (symbologyOf symbology) mode h)) ⌝ }
 {
     match judging::judge_drawn(symbology, drawn_count(mode, len)) {
-        Verdict::Turned(answer) => refuse(answer, codes),
+        Verdict::Turned(answer) => row::refuse(answer, codes),
         Verdict::Given => close(mode, len, sums::check(sum), codes),
     }
 }
@@ -94,7 +67,7 @@ fn fill(symbology: u8, mode: u8, text: &[u8], codes: &mut [u8; PLACES]) -> Fille
     let spelled = spelling::spell_text(symbology, mode, text, codes);
     let bad = spelled.bad;
     if bad.0 < n {
-        return refuse(Answer::BadByte(bad), codes);
+        return row::refuse(Answer::BadByte(bad), codes);
     }
     finish(symbology, mode, spelled.len, spelled.sum, codes)
 }
@@ -111,7 +84,7 @@ pub fn row_of_field(
 {
     *codes = [0; PLACES];
     match judging::judge_field(symbology, mode, count, field) {
-        Verdict::Turned(answer) => refuse(answer, codes),
+        Verdict::Turned(answer) => row::refuse(answer, codes),
         Verdict::Given => fill(symbology, mode, &field[0..count], codes),
     }
 }

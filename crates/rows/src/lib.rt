@@ -10,5 +10,4 @@
 mod drawing;
 mod spelling;
 
-pub use drawing::Filled;
 pub use drawing::row_of_field;

@@ -10,7 +10,8 @@
 --   halves    the lines of EAN and UPC: a guard, half the units, the centre, the other half, a guard
 --   sound     what the code needs of a description, by the number of sets: marks of three to nine elements, units of three to ten, and each
 --             row within the sets
---   Describes a description means part i of a list, and is sound
+--   readable  what reading needs: a mark and each row of a unit are found by their own words
+--   Describes a description means part i of a list, is sound and is readable
 use mathlib.Core.Path.{_≡_}
 use mathlib.Core.Bool.{Bool, true, false, _&&_, _||_}
 use mathlib.Core.List.{List, [], _∷_, _++_, map}
@@ -29,6 +30,7 @@ use Rattle.shapes.specs.declared.parts.Count.{Count}
 use Rattle.shapes.specs.declared.parts.Count.the-variants.{Of, All, Inner, Half}
 use Rattle.shapes.specs.declared.parts.Part.{Part as Line}
 use Rattle.shapes.specs.Sets.{bytes, rowOf, wordAt}
+use Rattle.shapes.specs.Searched.{markReads, unitReads}
 
 abbrev pub gapIn : Bool → List Kind
 gapIn g = pick g (gap ∷ []) []
@@ -94,6 +96,10 @@ sound sets p =
     (eqb (p .mark .elements) 0 || sizeable 9 (p .mark .elements))
     && (isNone (p .count) || (sizeable 10 (p .unit .elements) && within sets (p .unit)))
 
+abbrev pub readable : List (List ℕ) → Line → Bool
+readable sets p = markReads (p .mark) && unitReads sets (p .unit)
+
 pub record Describes (sets : List (List ℕ)) (parts : List Part) (i : ℕ) (p : Line) : Type 0 where
   pub is : partIn sets p ≡ getD parts i (close [])
   pub good : sound (length sets) p ≡ true
+  pub reads : readable sets p ≡ true

@@ -1,2 +1,3 @@
 pub mod Sets
+pub mod Searched
 pub mod Described

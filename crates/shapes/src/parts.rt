@@ -2,13 +2,10 @@
 // specs/Parts.antt). Constants and one `match`, so that a caller's loop over parts costs nothing.
 ghost use mathlib.Core.Path.{_≡_};
 ghost use mathlib.Core.Bool.{true, false};
-ghost use mathlib.Core.List.{[], _∷_};
 ghost use lib.ListN.{length};
-ghost use Rattle.laws.specs.Search.{pick};
-ghost use Rattle.symbologies.specs.Parts.{starred, lettering, industrial, interleaved, matrix};
 ghost use Rattle.symbologies.specs.Symbologies.{symbologyOf};
-ghost use Rattle.shapes.specs.Sets.{sets39, setsCodabar, setsIndustrial, setsDigits, setsOf};
-ghost use Rattle.shapes.specs.Described.{countIn, closed, lineAt, halves, Describes};
+ghost use Rattle.shapes.specs.Sets.{setsOf};
+ghost use Rattle.shapes.specs.Described.{countIn, closed, Describes};
 
 // A start, a stop, a guard or the centre: elements of one pattern, behind a parting space or not. One of no elements is none.
 pub struct Mark {
@@ -104,123 +101,44 @@ fn close(mark: Mark) -> Part
     line(mark, Count::Of(0), one(0, 0, 0))
 }
 
-// One of three parts, or nothing behind them.
-fn one_of(i: usize, first: Part, second: Part, third: Part) -> Part
-    ensures { λ r. ⌜ r ≡ lineAt (first ∷ second ∷ third ∷ []) i ⌝ }
-{
-    match i {
-        0 => first,
-        1 => second,
-        2 => third,
-        _ => close(bare(0, 0)),
-    }
-}
-
-// A start, a number of units, a stop.
-fn between(i: usize, start: Mark, count: Count, unit: Unit, stop: Mark) -> Part
-    ensures { λ r. ⌜ r ≡ lineAt (record { mark = start; count = count; unit = unit } ∷ closed stop ∷ []) i ⌝ }
-{
-    one_of(i, line(start, count, unit), close(stop), close(bare(0, 0)))
-}
-
-// A guard, half the units, the centre, the other half from the right set, a guard.
-fn halved(i: usize, half: usize, left: usize) -> Part
-    ensures { λ r. ⌜ r ≡ lineAt (halves half left) i ⌝ }
-{
-    one_of(
-        i,
-        line(bare(3, GUARD), Count::Of(half), one(4, 0, left)),
-        line(bare(5, CENTRE), Count::Of(half), one(4, 2, 10)),
-        close(bare(3, GUARD)),
-    )
-}
-
-// Code 39.
-fn starred(i: usize) -> Part
-    ensures { λ r. ⌜ Describes sets39 starred i r ⌝ }
-{
-    between(
-        i,
-        bare(9, STAR),
-        Count::All,
-        spaced(9, 0, 43),
-        parted(9, STAR),
-    )
-}
-
-// Codabar: the letters start and stop.
-fn lettering(i: usize) -> Part
-    ensures { λ r. ⌜ Describes setsCodabar lettering i r ⌝ }
-{
-    one_of(
-        i,
-        line(bare(0, 0), Count::Of(1), one(7, 2, 4)),
-        line(bare(0, 0), Count::Inner, spaced(7, 0, 16)),
-        line(bare(0, 0), Count::Of(1), spaced(7, 2, 4)),
-    )
-}
-
-fn industrial(i: usize) -> Part
-    ensures { λ r. ⌜ Describes setsIndustrial industrial i r ⌝ }
-{
-    between(
-        i,
-        bare(5, 0x0101030103),
-        Count::All,
-        spaced(9, 0, 10),
-        parted(5, 0x0301010103),
-    )
-}
-
-fn interleaved(i: usize) -> Part
-    ensures { λ r. ⌜ Describes setsDigits interleaved i r ⌝ }
-{
-    between(
-        i,
-        bare(4, 0x01010101),
-        Count::Half,
-        one(10, 0, 100),
-        bare(3, 0x010103),
-    )
-}
-
-fn matrix(i: usize) -> Part
-    ensures { λ r. ⌜ Describes setsDigits matrix i r ⌝ }
-{
-    between(
-        i,
-        bare(5, 0x0101010103),
-        Count::All,
-        spaced(5, 0, 10),
-        parted(5, 0x0101010103),
-    )
-}
-
-// The place of part i among the parts of a symbology; behind the last where the number is none.
-fn place_of(symbology: u8, i: usize) -> usize
-    ensures { λ r. ⌜ r ≡ pick (symbologyOf symbology .limits .known) i 3 ⌝ }
-{
-    if symbology == 0 {
-        return 3;
-    }
-    if symbology < 10 { i } else { 3 }
-}
-
-// Part i of a symbology, from 0 on; nothing behind its last, and so it is for any number that is no symbology.
+// Part i of a symbology, from 0 on, by three times the symbology and i; nothing behind its last, and so it is for any number that is no
+// symbology.
 pub fn part_of(symbology: u8, i: usize) -> Part
     ensures { λ r. ⌜ Describes (setsOf symbology) (symbologyOf symbology .parts) i r ⌝ }
 {
-    let at = place_of(symbology, i);
-    match symbology {
-        1 => starred(at),
-        2 => starred(at),
-        3 => lettering(at),
-        4 => industrial(at),
-        5 => interleaved(at),
-        6 => matrix(at),
-        7 => halved(at, 6, 20),
-        8 => halved(at, 4, 10),
-        _ => halved(at, 6, 10),
+    if i > 2 {
+        return close(bare(0, 0));
+    }
+    match 3 * symbology as usize + i {
+        // Code 39, and the same with full ASCII
+        3 => line(bare(9, STAR), Count::All, spaced(9, 0, 43)),
+        4 => close(parted(9, STAR)),
+        6 => line(bare(9, STAR), Count::All, spaced(9, 0, 43)),
+        7 => close(parted(9, STAR)),
+        // Codabar: the letters start and stop
+        9 => line(bare(0, 0), Count::Of(1), one(7, 2, 4)),
+        10 => line(bare(0, 0), Count::Inner, spaced(7, 0, 16)),
+        11 => line(bare(0, 0), Count::Of(1), spaced(7, 2, 4)),
+        // Industrial
+        12 => line(bare(5, 0x0101030103), Count::All, spaced(9, 0, 10)),
+        13 => close(parted(5, 0x0301010103)),
+        // Interleaved
+        15 => line(bare(4, 0x01010101), Count::Half, one(10, 0, 100)),
+        16 => close(bare(3, 0x010103)),
+        // Matrix
+        18 => line(bare(5, 0x0101010103), Count::All, spaced(5, 0, 10)),
+        19 => close(parted(5, 0x0101010103)),
+        // EAN-13, EAN-8, UPC-A
+        21 => line(bare(3, GUARD), Count::Of(6), one(4, 0, 20)),
+        22 => line(bare(5, CENTRE), Count::Of(6), one(4, 2, 10)),
+        23 => close(bare(3, GUARD)),
+        24 => line(bare(3, GUARD), Count::Of(4), one(4, 0, 10)),
+        25 => line(bare(5, CENTRE), Count::Of(4), one(4, 2, 10)),
+        26 => close(bare(3, GUARD)),
+        27 => line(bare(3, GUARD), Count::Of(6), one(4, 0, 10)),
+        28 => line(bare(5, CENTRE), Count::Of(6), one(4, 2, 10)),
+        29 => close(bare(3, GUARD)),
+        _ => close(bare(0, 0)),
     }
 }
 

@@ -15,12 +15,11 @@ use borrow.Author.Tests.{le-leb}
 use Rattle.laws.specs.Search.{pick}
 use Rattle.words.specs.declared.Answer.{Answer}
 use Rattle.words.specs.Order.{Outcome, gives, turned}
-use Rattle.symbologies.specs.declared.row.Rowed.{Rowed}
 use Rattle.symbologies.specs.declared.judging.Verdict.the-variants.{Given as given-row, Turned}
 use Rattle.symbologies.specs.Sizes.{places}
 use Rattle.symbologies.specs.Rows.{rowOfField}
 use Rattle.symbologies.specs.Strips.{elementsOf, ready}
-use Rattle.symbologies.specs.Told.{rowIn, told}
+use Rattle.symbologies.specs.Told.{Rowed, rowIn, told}
 use Rattle.symbologies.proofs.Held.{take-pad}
 use Rattle.symbologies.proofs.Ready.{drawn-ready, ready-counted}
 use Rattle.symbologies.proofs.Counted.{counted-few}

@@ -1,12 +1,13 @@
 -- Reading's returns: an answer handed on, or a row's data handed back.
 --
 --   handed-on                  12, 7 or 8, or the data and the strip's modules
+--   told-long                  the lent places are as many afterwards
 --   read-away, read-over       1, 2, 9, 10 or 11 handed on; what became of the row that was seen
 --
 -- Assumes nothing.
 use mathlib.Core.Path.{_≡_, refl, sym, ap, _∙_}
 use mathlib.Core.Bool.{Bool, true, false}
-use mathlib.Core.List.{List}
+use mathlib.Core.List.{List, []}
 use Prim.Native.Nat.{ℕ, _≤_}
 use native.Mathlib.Omega.{arith}
 use lib.Dec.{ltb}
@@ -17,14 +18,13 @@ use Rattle.laws.specs.Elements.{sum}
 use Rattle.words.specs.declared.Answer.{Answer}
 use Rattle.words.specs.Order.{Outcome, gives, turned}
 use Rattle.words.proofs.Order.{first-turned}
-use Rattle.symbologies.specs.declared.row.Rowed.{Rowed}
 use Rattle.symbologies.specs.declared.judging.Verdict.the-variants.{Given as given-row, Turned}
 use Rattle.symbologies.specs.Sizes.{places}
 use Rattle.symbologies.specs.Symbologies.{symbologyOf}
 use Rattle.symbologies.specs.Rows.{dataRead, dataChecks, dataOf}
 use Rattle.symbologies.specs.Strips.{rowRead, seenChecks, rowSeen}
-use Rattle.symbologies.specs.Told.{rowIn, told, modulesWithin}
-use Rattle.symbologies.proofs.Held.{take-pad}
+use Rattle.symbologies.specs.Told.{Rowed, rowIn, told, modulesWithin}
+use Rattle.symbologies.proofs.Held.{take-pad, row-long}
 use Rattle.symbologies.proofs.Ready.{ready-counted}
 use Rattle.symbologies.proofs.Counted.{counted-few}
 use Rattle.symbologies.proofs.Exact.{seen-drawn, seen-modules}
@@ -66,6 +66,10 @@ held-data s m r h = rw (take-pad places r h)
 held-modules : (s m : ℕ) (t r : List ℕ) → rowSeen s m t ≡ gives r → modulesWithin s (rowIn r) ≡ sum t
 unfolding modulesWithin
 held-modules s m t r e = let h : length r ≤ places = seen-few s m t r e in rw (le-leb (length r) places h, take-pad places r h) (seen-modules s m t r e)
+
+pub told-long : (x : Rowed) (o : Outcome) → x ≡ told o → length (x .row .codes) ≡ places
+told-long x (gives r) e = row-long (x .row) r (ap (λ (y : Rowed). y .row) e)
+told-long x (turned a) e = row-long (x .row) [] (ap (λ (y : Rowed). y .row) e)
 
 module _ (s m : ℕ) (t out : List ℕ) (x : Rowed) (e : x ≡ told (rowSeen s m t)) where
   pub read-away : (a : Answer) → x .verdict ≡ Turned a → (a ≡ readStrip s m t out .answer) × (out ≡ readStrip s m t out .buffer)

@@ -24,6 +24,7 @@ use words::Modules;
 ghost use mathlib.Core.Path.{_≡_};
 ghost use mathlib.Core.Bool.{true};
 ghost use lib.ListN.{length};
+ghost use Rattle.symbologies.specs.Sizes.{places};
 ghost use Rattle.symbologies.specs.Strips.{ready};
 ghost use Rattle.symbologies.specs.Told.{modulesWithin};
 ghost use Rattle.data.specs.Held.{dataOfRow, handedOf, written};
@@ -78,27 +79,27 @@ pub fn read(symbology: u8, mode: u8, strip: &[u8], out: &mut [u8]) -> Answer
     ensures { λ r. ⌜ r ≡ readStrip symbology mode (now (strip .entry)) (now (out .entry)) .answer ⌝ }
     ensures { λ _. ⌜ now (out .exit) ≡ readStrip symbology mode (now (strip .entry)) (now (out .entry)) .buffer ⌝ }
 {
-    let rowed = reads::row_seen(symbology, mode, strip);
-    let verdict = rowed.verdict;
+    let mut codes = [0; PLACES];
+    let filled = reads::row_seen(symbology, mode, strip, &mut codes);
+    let verdict = filled.verdict;
     match verdict {
         Verdict::Turned(answer) => answer,
-        Verdict::Given => hand_back(symbology, mode, rowed.row, out),
+        Verdict::Given => hand_back(symbology, mode, &codes, filled.len, out),
     }
 }
 
 // The answer for the row of a strip: 12, 7, 8, or its data. What was read is drawn, so its total is the formula's.
-fn hand_back(symbology: u8, mode: u8, row: Row, out: &mut [u8]) -> Answer
-    ensures { λ r. ⌜ r ≡ answerFor (handedOf (dataOfRow symbology mode row) (length (now (out .entry)))) (modulesWithin symbology row) ⌝ }
-    ensures { λ _. ⌜ now (out .exit) ≡ written (dataOfRow symbology mode row) (now (out .entry)) ⌝ }
+fn hand_back(symbology: u8, mode: u8, codes: &[u8; PLACES], n: usize, out: &mut [u8]) -> Answer
+    requires { ⌜ length (now codes) ≡ places ⌝ }
+    ensures { λ r. ⌜ r ≡ answerFor (handedOf (dataOfRow symbology mode (record { codes = now (codes .entry); len = n })) (length (now (out .entry)))) (modulesWithin symbology (record { codes = now (codes .entry); len = n })) ⌝ }
+    ensures { λ _. ⌜ now (out .exit) ≡ written (dataOfRow symbology mode (record { codes = now (codes .entry); len = n })) (now (out .entry)) ⌝ }
 {
-    let codes = row.codes;
-    let len = row.len;
-    let handed = data::data_of(symbology, mode, row, out);
+    let handed = data::data_of(symbology, mode, codes, n, out);
     match handed {
         Handed::Turned(answer) => answer,
         Handed::Data(bytes) => Answer::HandedBack(
             bytes,
-            Modules(lengths::modules_of(symbology, &codes, len)),
+            Modules(lengths::modules_of(symbology, codes, n)),
         ),
     }
 }

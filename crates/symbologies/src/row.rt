@@ -4,28 +4,37 @@ use super::sizes::PLACES;
 use words::Answer;
 ghost use mathlib.Core.Path.{_≡_};
 ghost use Rattle.words.specs.Order.{turned};
-ghost use Rattle.symbologies.specs.Told.{told};
+ghost use Rattle.symbologies.specs.declared.judging.Verdict.the-variants.{Given};
+ghost use Rattle.symbologies.specs.Told.{told, filledAs};
 
 pub struct Row {
     pub codes: [u8; PLACES],
     pub len: usize,
 }
 
-// A row, and whether it is given. A row that is not is empty.
-pub struct Rowed {
+// Whether lent places hold a row, and how many characters it has; where it is turned away they hold none.
+pub struct Filled {
     pub verdict: Verdict,
-    pub row: Row,
+    pub len: usize,
 }
 
-// An answer, with an empty row.
-pub fn turn_away(answer: Answer) -> Rowed
-    ensures { λ r. ⌜ r ≡ told (turned answer) ⌝ }
+// An answer; the places are cleared.
+pub fn refuse(answer: Answer, codes: &mut [u8; PLACES]) -> Filled
+    ensures { λ r. ⌜ filledAs r (now (codes .exit)) ≡ told (turned answer) ⌝ }
 {
-    Rowed {
+    *codes = [0; PLACES];
+    Filled {
         verdict: Verdict::Turned(answer),
-        row: Row {
-            codes: [0; PLACES],
-            len: 0,
-        },
+        len: 0,
+    }
+}
+
+// A row of so many characters.
+pub fn give(len: usize) -> Filled
+    ensures { λ r. ⌜ r ≡ record { verdict = Given; len = len } ⌝ }
+{
+    Filled {
+        verdict: Verdict::Given,
+        len,
     }
 }

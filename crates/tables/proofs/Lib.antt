@@ -1,6 +1,5 @@
 pub mod Wide
 pub mod Alphabets
-pub mod Patterns
 pub mod Rules
 pub mod Good
 pub mod FullAscii

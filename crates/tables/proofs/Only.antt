@@ -6,24 +6,14 @@ use Rattle.tables.proofs.code39.value.Reads as Value39
 use Rattle.tables.proofs.code39.value.Kinds as Value39Kinds
 use Rattle.tables.proofs.code39.byte.Reads as Byte39
 use Rattle.tables.proofs.code39.byte.Kinds as Byte39Kinds
-use Rattle.tables.proofs.code39.codes.Reads as Codes39
-use Rattle.tables.proofs.code39.codes.Kinds as Codes39Kinds
 use Rattle.tables.proofs.codabar.value.Reads as ValueCodabar
 use Rattle.tables.proofs.codabar.value.Kinds as ValueCodabarKinds
 use Rattle.tables.proofs.codabar.byte.Reads as ByteCodabar
 use Rattle.tables.proofs.codabar.byte.Kinds as ByteCodabarKinds
-use Rattle.tables.proofs.codabar.codes.Reads as CodesCodabar
-use Rattle.tables.proofs.codabar.codes.Kinds as CodesCodabarKinds
 use Rattle.tables.proofs.two_of_five.value.Reads as Value25
 use Rattle.tables.proofs.two_of_five.value.Kinds as Value25Kinds
 use Rattle.tables.proofs.two_of_five.byte.Reads as Byte25
 use Rattle.tables.proofs.two_of_five.byte.Kinds as Byte25Kinds
-use Rattle.tables.proofs.two_of_five.codes.Reads as Codes25
-use Rattle.tables.proofs.two_of_five.codes.Kinds as Codes25Kinds
-use Rattle.tables.proofs.two_of_five.found.Reads as Found25
-use Rattle.tables.proofs.two_of_five.found.Kinds as Found25Kinds
-use Rattle.tables.proofs.ean.patterns.Reads as Patterns
-use Rattle.tables.proofs.ean.patterns.Kinds as PatternsKinds
 use Rattle.tables.proofs.ean.parities_of.Reads as ParitiesOf
 use Rattle.tables.proofs.ean.parities_of.Kinds as ParitiesOfKinds
 use Rattle.tables.proofs.ean.first_digit.Reads as FirstDigit
@@ -35,32 +25,17 @@ value39 κs a p q x y = only
 pub byte39 : One 0 Byte39Kinds.ps Byte39Kinds.r Byte39.Learnt
 byte39 κs a p q x y = only
 
-pub codes39 : One 0 Codes39Kinds.ps Codes39Kinds.r Codes39.Learnt
-codes39 κs a p q x y = only
-
 pub value-codabar : One 0 ValueCodabarKinds.ps ValueCodabarKinds.r ValueCodabar.Learnt
 value-codabar κs a p q x y = only
 
 pub byte-codabar : One 0 ByteCodabarKinds.ps ByteCodabarKinds.r ByteCodabar.Learnt
 byte-codabar κs a p q x y = only
 
-pub codes-codabar : One 0 CodesCodabarKinds.ps CodesCodabarKinds.r CodesCodabar.Learnt
-codes-codabar κs a p q x y = only
-
 pub value25 : One 0 Value25Kinds.ps Value25Kinds.r Value25.Learnt
 value25 κs a p q x y = only
 
 pub byte25 : One 0 Byte25Kinds.ps Byte25Kinds.r Byte25.Learnt
 byte25 κs a p q x y = only
-
-pub codes25 : One 0 Codes25Kinds.ps Codes25Kinds.r Codes25.Learnt
-codes25 κs a p q x y = only
-
-pub found25 : One 0 Found25Kinds.ps Found25Kinds.r Found25.Learnt
-found25 κs a p q x y = only
-
-pub patterns : One 0 PatternsKinds.ps PatternsKinds.r Patterns.Learnt
-patterns κs a p q x y = only
 
 pub parities-of : One 0 ParitiesOfKinds.ps ParitiesOfKinds.r ParitiesOf.Learnt
 parities-of κs a p q x y = only

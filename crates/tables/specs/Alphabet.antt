@@ -6,7 +6,6 @@
 --   valueOf    the value of a byte, the size where it is no character
 --   byteOf     the byte of a value, 0 past the characters
 --   bitsOf     the code of a value, 0 past the codes
---   foundOf    the value of a code, the size where no character has it
 --   rowsOf     the characters as elements, n to a character
 use mathlib.Core.List.{List, map}
 use Prim.Native.Nat.{ℕ}
@@ -29,9 +28,6 @@ byteOf a v = getD (a .chars) v 0
 
 unfoldable pub bitsOf : Alphabet → ℕ → ℕ
 bitsOf a v = getD (a .codes) v 0
-
-unfoldable pub foundOf : Alphabet → ℕ → ℕ
-foundOf a code = indexIn (take (size a) (a .codes)) code
 
 unfoldable pub rowsOf : ℕ → Alphabet → List (List ℕ)
 rowsOf n a = map (spread n) (take (size a) (a .codes))

@@ -3,7 +3,7 @@
 --   next-choice     the choices from an index on; inside, those of a part among all
 --   Cut, part-cut   the first part of a strip: how many choices it draws, each one of its rows, and what the others draw
 --   Left, started, Turn, turn, ended    the loop over parts: what is left to draw, and a part of it
---   sound-mark, sound-unit, none-count    what is asked of a description; a part of no units has none
+--   sound-mark, sound-unit    what is asked of a description
 --
 -- Assumes nothing.
 use mathlib.Core.Path.{_≡_, refl, sym, ap, _∙_}
@@ -16,7 +16,6 @@ use Prim.Native.Nat.{zero-le, suc-le-suc}
 use lib.Dec.{eqb}
 use lib.ListN.{length, getD, take, drop, length-map, length-append, length-drop, drop-of-length-le}
 use lib.Seq.{drop-cons, drop-drop, take-take, length-take-le}
-use borrow.Author.Tests.{eqb-true}
 use Rattle.laws.specs.Search.{pick}
 use Rattle.laws.specs.Units.{Kind, fixed, free, strip, frees, Fits}
 use Rattle.laws.specs.Writing.{putIn, Put}
@@ -26,9 +25,8 @@ use Rattle.laws.specs.Spelling.{counted}
 use Rattle.laws.proofs.Finite.{both-left, both-right}
 use Rattle.laws.proofs.Spelling.{Below, counted-length}
 use Rattle.shapes.specs.declared.parts.Mark.{Mark}
-use Rattle.shapes.specs.declared.parts.Count.{Count}
-use Rattle.shapes.specs.declared.parts.Count.the-variants.{Of, All, Inner, Half}
 use Rattle.shapes.specs.declared.parts.Part.{Part as Line}
+use Rattle.shapes.proofs.Lines.{none-count}
 use Rattle.shapes.specs.Sets.{rowOf, setsOf}
 use Rattle.shapes.specs.Described.{gapIn, markIn, rowIn, unitIn, countIn, isNone, partIn, sizeable, within, sound, Describes}
 use Rattle.symbologies.specs.Sizes.{places}
@@ -67,12 +65,6 @@ module _ (n : ℕ) (p : Line) (s : sound n p ≡ true) where
   sound-unit e =
       let b : unit-good ≡ true = rw e at (both-right mark-good (isNone (p .count) || unit-good) s) in
       (both-left (sizeable 10 (p .unit .elements)) (within n (p .unit)) b, both-right (sizeable 10 (p .unit .elements)) (within n (p .unit)) b)
-
-pub none-count : (c : Count) (n : ℕ) → isNone c ≡ true → countIn c n ≡ 0
-none-count (Of k) n e = eqb-true k 0 e
-none-count All n e = cc
-none-count Inner n e = cc
-none-count Half n e = cc
 
 -- ---- a mark draws no choice
 

@@ -1,7 +1,7 @@
 -- `draw_field`: an answer is handed on, a row is laid out.
 -- Assumes nothing.
 use borrow.Author.Needs.{needs}
-use Rattle.rows.specs.Held.{filledAs}
+use Rattle.symbologies.specs.Told.{filledAs}
 use Rattle.strip.proofs.Calls.{turned-away, row-ready, laid-out}
 use Rattle.strip.proofs.draw_field.Statement.{statement}
 use Rattle.strip.proofs.draw_field.Tie as tie

@@ -10,18 +10,18 @@ use Rattle.strip.proofs.hand_back.Tie as tie
 
 returns : tie.Need-returns
 returns c =
-    let a = c .before .before .before .before .before .before .before .before .before .args in
+    let a = c .before .before .before .before .before .before .before .before .args in
     let d = c .before .before .before .before .before .data-of in
-    let total = modulesWithin (a .symbology) (a .row) in
+    let total = modulesWithin (a .symbology) (record { codes = a .codes .now; len = a .n }) in
     (sym (ap (λ (h : Handed). answerFor h total) (c .before .handed .given .1)) ∙ ap (λ (h : Handed). answerFor h total) (d .ensures .0), d .ensures .1)
 
 returns-2 : tie.Need-returns-2
 returns-2 c =
-    let a = c .before .before .before .before .before .before .before .before .before .before .before .args in
-    let d = c .before .before .before .before .before .before .before .data-of in
-    let total = modulesWithin (a .symbology) (a .row) in (
+    let a = c .before .before .before .before .before .before .before .before .before .args in
+    let d = c .before .before .before .before .before .before .data-of in
+    let total = modulesWithin (a .symbology) (record { codes = a .codes .now; len = a .n }) in (
       rw (c .modules-of .ensures)
-          (sym (ap (λ (h : Handed). answerFor h total) (c .before .before .before .handed2 .given .1)) ∙ ap (λ (h : Handed). answerFor h total) (d .ensures .0)),
+          (sym (ap (λ (h : Handed). answerFor h total) (c .before .before .handed2 .given .1)) ∙ ap (λ (h : Handed). answerFor h total) (d .ensures .0)),
       d .ensures .1,
     )
 
