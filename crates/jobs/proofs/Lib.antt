@@ -1,9 +1,4 @@
 pub mod Bodies
-pub mod Digits
-pub mod Putting
-pub mod Narrow
-pub mod Fits
-pub mod Texts
 pub mod Runs
 pub mod Pieces
 pub mod Promise

@@ -23,11 +23,12 @@ use lib.ListN.{length, getD, take, drop, length-append, length-drop, List·getD-
 use lib.Seq.{drop-drop, drop-append-le, take-append-le}
 use borrow.Author.Tests.{leb-false, le-leb, le-ltb}
 use Rattle.laws.specs.Search.{pick}
-use Rattle.jobs.specs.Sizes.{longestLine}
+use Rattle.lines.specs.Sizes.{longestLine}
+use Rattle.lines.specs.Line.{stopLine}
 use Rattle.jobs.specs.declared.run.Ended.{Ended}
 use Rattle.jobs.specs.declared.run.Ended.the-variants.{More, Full, Stopped}
 use Rattle.jobs.specs.Kinds.{fieldOf, known, bodyOf}
-use Rattle.jobs.specs.Run.{Job, Front, nothing, unknown, cut, whole, jobOf, frontOf, counted, lineFor, drawnFor, stopLine, runFrom, run, Held, ends, behind, heldRun}
+use Rattle.jobs.specs.Run.{Job, Front, nothing, unknown, cut, whole, jobOf, frontOf, counted, lineFor, drawnFor, runFrom, run, Held, ends, behind, heldRun}
 use Rattle.jobs.specs.Loop.{joined, closing, Prints, full, more, over, stop}
 use Rattle.jobs.proofs.Bodies.{body-field, body-most}
 use Rattle.jobs.proofs.Runs.{whole-is, whole-rest, shorter, run-step, held-step}

@@ -18,14 +18,14 @@ use lib.ListN.{length, getD, take, drop, length-drop, drop-of-length-le}
 use lib.Seq.{drop-cons, drop-drop, getD-drop}
 use borrow.Author.Tests.{leb-true, le-leb, lt-leb, lt-ltb, le-ltb}
 use Rattle.laws.specs.Search.{pick}
-use Rattle.jobs.specs.Sizes.{longestLine}
+use Rattle.lines.specs.Sizes.{longestLine}
 use Rattle.jobs.specs.declared.run.Ended.{Ended}
 use Rattle.jobs.specs.declared.run.Ended.the-variants.{More, Full, Stopped}
 use Rattle.jobs.specs.declared.run.Run.{Run}
-use Rattle.jobs.specs.Kinds.{fieldOf, known, bodyOf}
+use Rattle.jobs.specs.Kinds.{symbologyOf, fieldOf, known, bodyOf}
 use Rattle.laws.specs.Writing.{Put, front}
-use Rattle.jobs.specs.Line.{isDrawn}
-use Rattle.jobs.specs.Run.{Job, Front, nothing, unknown, cut, whole, jobOf, frontOf, by, counted, countedIf, lineFor, drawnFor, endLine, stopLine, runBy, runFrom, Held, ends, behind, heldBy, heldRun, haltedAt, runOf}
+use Rattle.lines.specs.Line.{isDrawn, lineOf, endLine, stopLine}
+use Rattle.jobs.specs.Run.{Job, Front, nothing, unknown, cut, whole, jobOf, frontOf, by, counted, countedIf, lineFor, drawnFor, runBy, runFrom, Held, ends, behind, heldBy, heldRun, haltedAt, runOf}
 use Rattle.jobs.proofs.Bodies.{body-none, body-some, body-field}
 use Rattle.laws.proofs.Writing.{placed, then, at-front}
 
@@ -209,16 +209,19 @@ module _ {held : List ℕ} {records drawn : ℕ} {out₀ out : List ℕ} {taken 
   ended-full x after e h = ended Full (sym rest ∙ rw (e, lt-ltb (length out₀ - written) longestLine (omega (arith, g .put .long))))
 
   pub next : (x : Job) (out₁ : List ℕ) (taken₁ written₁ number₁ good₁ : ℕ) → frontOf (drop taken held) ≡ whole x (drop taken₁ held) → longestLine ≤ length out - written
-      → taken₁ ≡ taken + suc (bodyOf (x .kind)) → taken₁ ≤ length held → number₁ ≡ counted number → Put out written (lineFor number₁ x) out₁ written₁
-      → (b : Bool) → b ≡ isDrawn (x .kind) (x .mode) (x .count) (x .field) → good₁ ≡ countedIf b good
+      → taken₁ ≡ taken + suc (bodyOf (x .kind)) → taken₁ ≤ length held → number₁ ≡ counted number
+      → (symbology : ℕ) → symbology ≡ symbologyOf (x .kind) → Put out written (lineOf number₁ symbology (x .mode) (x .count) (x .field)) out₁ written₁
+      → (b : Bool) → b ≡ isDrawn symbology (x .mode) (x .count) (x .field) → good₁ ≡ countedIf b good
       → Going held records drawn out₀ out₁ taken₁ written₁ number₁ good₁
-  next x out₁ taken₁ written₁ number₁ good₁ e h t l n p b q c = record {
-    within = l;
-    text = g .text ++ lineFor number₁ x;
-    put = then (g .put) p;
-    same =
-        let d : good₁ ≡ drawnFor good x = c ∙ ap (λ (v : Bool). countedIf v good) q in
-        let r : length out₀ - written - length (lineFor number₁ x) ≡ length out₀ - written₁ = omega (arith, p .behind) in
-        g .same ∙ ap (behind taken (g .text)) (sym rest ∙ rw (e, le-ltb (length out₀ - written) longestLine (omega (arith, g .put .long)), ← n, r, ← d))
-        ∙ behind-behind taken (suc (bodyOf (x .kind))) (g .text) (lineFor number₁ x) (heldRun (length out₀ - written₁) number₁ good₁ (drop taken₁ held)) ∙ rw (← t);
-  }
+  next x out₁ taken₁ written₁ number₁ good₁ e h t l n symbology s w b v c =
+      let p : Put out written (lineFor number₁ x) out₁ written₁ = rw s at w in
+      let q : b ≡ isDrawn (symbologyOf (x .kind)) (x .mode) (x .count) (x .field) = rw s at v in record {
+        within = l;
+        text = g .text ++ lineFor number₁ x;
+        put = then (g .put) p;
+        same =
+            let d : good₁ ≡ drawnFor good x = c ∙ ap (λ (v : Bool). countedIf v good) q in
+            let r : length out₀ - written - length (lineFor number₁ x) ≡ length out₀ - written₁ = omega (arith, p .behind) in
+            g .same ∙ ap (behind taken (g .text)) (sym rest ∙ rw (e, le-ltb (length out₀ - written) longestLine (omega (arith, g .put .long)), ← n, r, ← d))
+            ∙ behind-behind taken (suc (bodyOf (x .kind))) (g .text) (lineFor number₁ x) (heldRun (length out₀ - written₁) number₁ good₁ (drop taken₁ held)) ∙ rw (← t);
+      }

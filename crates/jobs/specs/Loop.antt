@@ -8,9 +8,10 @@ use mathlib.Core.Path.{_≡_}
 use mathlib.Core.List.{List, [], _∷_, _++_}
 use Prim.Native.Nat.{ℕ, _≤_}
 use lib.ListN.{drop}
-use Rattle.jobs.specs.Sizes.{longestLine}
+use Rattle.lines.specs.Sizes.{longestLine}
+use Rattle.lines.specs.Line.{endLine, stopLine}
 use Rattle.jobs.specs.declared.run.Ended.the-variants.{More, Full, Stopped}
-use Rattle.jobs.specs.Run.{Held, heldRun, endLine, stopLine}
+use Rattle.jobs.specs.Run.{Held, heldRun}
 
 abbrev pub joined : List (List ℕ) → List ℕ
 joined [] = []

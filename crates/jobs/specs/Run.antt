@@ -7,7 +7,6 @@
 --   frontOf    how these do; `by`, a choice by it
 --   counted    one more; the largest u64 stays, which no run reaches; countedIf, where a test passes
 --   lineFor, drawnFor    the line of a record, and the number of drawn ones with it
---   endLine, stopLine    the last line
 --   runFrom    all that is printed for the bytes that are left, after so many records, of which so many were drawn;
 --              runBy, in so many steps
 --   run        all that is printed for an input
@@ -22,14 +21,12 @@ use Prim.Native.Nat.{ℕ, zero, suc, _+_, _-_}
 use lib.Dec.{ltb, leb}
 use lib.ListN.{length, getD, take, drop}
 use Rattle.laws.specs.Search.{pick}
-use Rattle.tables.specs.Printed.{text}
-use Rattle.jobs.specs.Sizes.{longestLine}
+use Rattle.lines.specs.Sizes.{longestLine}
 use Rattle.jobs.specs.declared.run.Ended.{Ended}
 use Rattle.jobs.specs.declared.run.Ended.the-variants.{More, Full, Stopped}
 use Rattle.jobs.specs.declared.run.Run.{Run}
-use Rattle.jobs.specs.Kinds.{fieldOf, known, bodyOf}
-use Rattle.jobs.specs.Text.{decimal, line}
-use Rattle.jobs.specs.Line.{isDrawn, lineOf}
+use Rattle.jobs.specs.Kinds.{symbologyOf, fieldOf, known, bodyOf}
+use Rattle.lines.specs.Line.{isDrawn, lineOf, endLine, stopLine}
 
 pub record Job : Type 0 where
   pub kind : ℕ
@@ -65,16 +62,10 @@ abbrev pub countedIf : Bool → ℕ → ℕ
 countedIf b n = pick b (counted n) n
 
 abbrev pub lineFor : ℕ → Job → List ℕ
-lineFor number x = lineOf number (x .kind) (x .mode) (x .count) (x .field)
+lineFor number x = lineOf number (symbologyOf (x .kind)) (x .mode) (x .count) (x .field)
 
 abbrev pub drawnFor : ℕ → Job → ℕ
-drawnFor drawn x = countedIf (isDrawn (x .kind) (x .mode) (x .count) (x .field)) drawn
-
-unfoldable pub endLine : ℕ → ℕ → List ℕ
-endLine records drawn = line (text "end" ∷ decimal records ∷ decimal drawn ∷ [])
-
-unfoldable pub stopLine : ℕ → List ℕ
-stopLine records = line (text "stop" ∷ decimal records ∷ [])
+drawnFor drawn x = countedIf (isDrawn (symbologyOf (x .kind)) (x .mode) (x .count) (x .field)) drawn
 
 -- each record is at least a byte, so that as many steps as bytes are enough
 abbrev pub runBy : ℕ → ℕ → ℕ → List ℕ → List ℕ

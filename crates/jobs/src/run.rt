@@ -1,7 +1,6 @@
 // The records among the bytes that are held.
 use super::kinds;
-use super::lines;
-use super::sizes::LONGEST_LINE;
+use lines::sizes::LONGEST_LINE;
 ghost use mathlib.Core.Path.{_≡_};
 ghost use Prim.Native.Nat.{_≤_};
 ghost use lib.ListN.{length};
@@ -82,7 +81,16 @@ pub fn run_held(held: &[u8], records: u64, drawn: u64, out: &mut [u8]) -> Run
         let from = taken + 3;
         let next = taken + 1 + body;
         number = counted(number);
-        let line = lines::put_line(number, kind, mode, count, &held[from..next], out, written);
+        let symbology = kinds::symbology_of(kind);
+        let line = lines::put_line(
+            number,
+            symbology,
+            mode,
+            count,
+            &held[from..next],
+            out,
+            written,
+        );
         good = counted_if(line.drawn, good);
         written = line.next;
         taken = next;

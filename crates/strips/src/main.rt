@@ -1,8 +1,9 @@
 // The program `strips`: a job file on standard input, a line for each record on standard output (document 01, "Job file").
 //
-// Every byte that is printed comes from crate `jobs`; here bytes are read, held and written. At most 64 KiB of input are held: whole
-// records are printed and given up, and what is left, the beginning of a record, moves to the front, so that a record that lies
-// across any border is read whole. A read or a write that fails ends the run with a message on standard error and no last line.
+// Every byte that is printed comes from the crates `jobs` and `lines`; here bytes are read, held and written. At most 64 KiB of input
+// are held: whole records are printed and given up, and what is left, the beginning of a record, moves to the front, so that a record
+// that lies across any border is read whole. A read or a write that fails ends the run with a message on standard error and no last
+// line.
 use jobs::Ended;
 ghost use mathlib.Core.Path.{_≡_};
 ghost use mathlib.Core.Bool.{_&&_};
@@ -170,7 +171,7 @@ fn has_more(written: bool, ended: Ended) -> bool {
 // The last line where the run ends at an unknown kind, if the lines before it were written.
 fn stop(written: bool, records: u64, room: &mut [u8]) {
     if written {
-        let n = jobs::stop_line(records, room);
+        let n = lines::stop_line(records, room);
         print(room, n);
     }
 }
@@ -178,7 +179,7 @@ fn stop(written: bool, records: u64, room: &mut [u8]) {
 // The last line where the input ends, between two records or within one.
 fn finish(have: usize, records: u64, drawn: u64, room: &mut [u8]) {
     if have == 0 {
-        let n = jobs::end_line(records, drawn, room);
+        let n = lines::end_line(records, drawn, room);
         print(room, n);
     } else {
         stop(true, records, room);

@@ -48,22 +48,23 @@ shared-slice-read-count c =
 
 sub-put-line : tie.Need-sub-put-line Inv-loop μ-loop
 sub-put-line c =
-    omega (arith, body-long _ (c .before .before .before .before .before .before .body-of .ensures) (c .before .before .before .before .before .if1 .left))
+    omega (arith, body-long _ (c .before .before .before .before .before .before .before .body-of .ensures) (c .before .before .before .before .before .before .if1 .left))
 
 part-put-line-start : tie.Need-part-put-line-start Inv-loop μ-loop
 part-put-line-start c =
-    omega (arith, body-long _ (c .before .before .before .before .before .before .body-of .ensures) (c .before .before .before .before .before .if1 .left))
+    omega (arith, body-long _ (c .before .before .before .before .before .before .before .body-of .ensures) (c .before .before .before .before .before .before .if1 .left))
 
 loop-again : tie.Need-loop-again Inv-loop μ-loop
 loop-again c =
     let p = c .before .before .before in
-    let n = p .before .before .before in
+    let y = p .before .before .before in
+    let n = y .before in
     let b = n .before .before .before .before .before .before in
     let t = b .before .before in
     let l = t .before .loop in
     let a = t .before .before .before .before .args in
     next (l .inv) _ _ _ _ _ _ (front-whole (a .held .now) (l .taken) (t .loop-test .taken) (b .body-of .result) (b .body-of .ensures) (n .before .before .before .before .before .if1 .left) _ _ _ (omega arith) refl refl refl) (omega arith)
-    (omega (arith, b .body-of .ensures)) (omega arith) (n .counted .ensures) (p .put-line .ensures .0) (p .put-line .result .drawn) (p .put-line .ensures .1)
+    (omega (arith, b .body-of .ensures)) (omega arith) (n .counted .ensures) _ (y .symbology-of .ensures) (p .put-line .ensures .0) (p .put-line .result .drawn) (p .put-line .ensures .1)
     (c .counted-if .ensures)
 
 pub run-held-spec : {M : Type 1} → statement M
@@ -93,6 +94,7 @@ run-held-spec =
     (λ c. search needs)
     (λ c. search needs)
     (λ c. search needs)
+    (λ c κs. search needs)
     (λ c κs. search needs)
     sub-put-line
     part-put-line-start
