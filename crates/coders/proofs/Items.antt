@@ -9,10 +9,10 @@ use mathlib.Core.Bool.{true}
 use mathlib.Core.List.{List, _∷_}
 use Prim.Native.Nat.{ℕ, _+_, _<_, _≤_}
 use lib.Dec.{eqb}
+use Rattle.laws.specs.Search.{upto}
 use Rattle.laws.specs.Elements.{alike}
 use Rattle.laws.specs.Spelling.{byteFor}
 use Rattle.laws.proofs.Arms.{Off, unless, agree, alike-there}
-use Rattle.laws.proofs.Finite.{upto}
 use Rattle.symbologies.specs.Coders.{fullCoder}
 use Rattle.symbologies.proofs.Coders.{back, full-own, full-none}
 use Rattle.coders.specs.Pieces.{edge}

@@ -2,7 +2,7 @@
 -- table, is one `refl`.
 --
 --   both-left, both-right, both-true   what a conjunction of tests says, and when it passes
---   upto       a test at every number below n; `upto-at` reads it off
+--   upto-at    what a test at every number below n says
 --   line       two numbers agree below a bound
 --   grid       two numbers agree at every pair below two bounds
 --   every      a test at every entry of a list and its index; `every-at` reads it off
@@ -20,6 +20,7 @@ use native.Mathlib.Decide.{ℕ-discrete}
 use lib.Dec.{eqb}
 use lib.ListN.{length, getD}
 use borrow.Author.Tests.{eqb-true, eqb-false}
+use Rattle.laws.specs.Search.{upto}
 
 pub both-left : (a b : Bool) → (a && b) ≡ true → a ≡ true
 both-left true b e = refl
@@ -31,10 +32,6 @@ both-right false b e = cc
 
 pub both-true : (a b : Bool) → a ≡ true → b ≡ true → (a && b) ≡ true
 both-true a b p q = rw (p, q)
-
-abbrev pub upto : ℕ → (ℕ → Bool) → Bool
-upto zero f = true
-upto (suc n) f = let t = upto n f in f n && t
 
 upto-step : (f : ℕ → Bool) (n i : ℕ) (b : Bool) → eqb i n ≡ b → f n ≡ true → (i < n → f i ≡ true) → i < suc n → f i ≡ true
 upto-step f n i true e p ih h = rw (eqb-true i n e) p

@@ -2,7 +2,7 @@
 --
 --   Drawn, Valid    what is asked of a coder: a byte draws nothing, one character that begins no pair where another stands behind it,
 --                   or a pair; and the search finds it again
---   counted-length  n numbers from one on are n
+--   counted-length  n numbers from one on are n; numbered, what is made of each of them, at a place
 --   for-hit         a byte that is found draws the item
 --   for-own         and where no other byte draws it, that byte is found
 --   for-none        where no byte draws an item, none is found
@@ -22,7 +22,7 @@
 -- Assumes nothing.
 use mathlib.Core.Path.{_≡_, refl, sym, ap, _∙_}
 use mathlib.Core.Bool.{Bool, true, false, _&&_}
-use mathlib.Core.List.{List, [], _∷_, _++_}
+use mathlib.Core.List.{List, [], _∷_, _++_, map}
 use Prim.Native.Nat.{ℕ, zero, suc, _+_, _*_, _<_, _≤_}
 use native.Mathlib.Omega.{arith}
 use native.Mathlib.Decide.{decLt}
@@ -58,6 +58,13 @@ counted-at i (suc n) (suc j) h = omega (arith, counted-at (suc i) n j (le-of-suc
 pub counted-length : (i n : ℕ) → length (counted i n) ≡ n
 counted-length i zero = refl
 counted-length i (suc n) = ap suc (counted-length (suc i) n)
+
+pub numbered : (f : ℕ → List ℕ) (i n j : ℕ) → j < n → getD (map f (counted i n)) j [] ≡ f (i + j)
+numbered f i zero j h = absurd (not-suc-le-zero h)
+numbered f i (suc n) zero h = ap f (omega arith)
+numbered f i (suc n) (suc j) h =
+    let e : suc i + j ≡ i + suc j = omega arith in
+    numbered f (suc i) n j (le-of-suc-le-suc h) ∙ ap f e
 
 pub for-hit : (k : Coder) (p : Place) (item : List ℕ) → byteFor k p item < 256 → k .drawn p (byteFor k p item) ≡ item
 unfolding byteFor

@@ -5,10 +5,11 @@
 --   is        whether a number is the one sought
 --   indexIn   the first index at which a number stands, or the length
 --   Distinct  no number stands at two indexes
+--   upto      a test passes at every number below n
 use mathlib.Core.Path.{_≡_}
-use mathlib.Core.Bool.{Bool, true, false}
+use mathlib.Core.Bool.{Bool, true, false, _&&_}
 use mathlib.Core.List.{List, [], _∷_}
-use Prim.Native.Nat.{ℕ, suc, _<_}
+use Prim.Native.Nat.{ℕ, zero, suc, _<_}
 use lib.Dec.{eqb}
 use lib.ListN.{length, getD}
 
@@ -29,3 +30,7 @@ indexIn xs x = first (is x) xs
 
 abbrev pub Distinct : List ℕ → Type 0
 Distinct xs = (i j : ℕ) → i < length xs → j < length xs → getD xs i 0 ≡ getD xs j 0 → i ≡ j
+
+abbrev pub upto : ℕ → (ℕ → Bool) → Bool
+upto zero f = true
+upto (suc n) f = let t = upto n f in f n && t

@@ -19,7 +19,7 @@ use lib.Dec.{eqb, ltb, leb}
 use lib.ListN.{length, getD, take, drop, set, length-map, length-set, length-drop, length-take, List·getD-eq-default}
 use lib.Seq.{drop-drop, drop-nil, take-all, getD-take, getD-drop}
 use borrow.Author.Tests.{eqb-true, eqb-false, ne-eqb, ltb-true, ltb-false, le-ltb, leb-true, leb-false}
-use Rattle.laws.specs.Search.{pick}
+use Rattle.laws.specs.Search.{pick, upto}
 use Rattle.laws.specs.Elements.{alike, find}
 use Rattle.laws.specs.Units.{Kind, fixed, free, width, Reading, stopped, push, next, readAt}
 use Rattle.laws.specs.Shapes.{many, gap}
@@ -33,7 +33,7 @@ use Rattle.shapes.specs.declared.parts.Mark.{Mark}
 use Rattle.shapes.specs.declared.parts.Unit.{Unit}
 use Rattle.shapes.specs.declared.parts.Part.{Part as Line}
 use Rattle.shapes.specs.Sets.{low, bytes, rowOf, wordAt}
-use Rattle.shapes.specs.Searched.{everySecond, seen, digitIn, foundBy, few, tenOf, rowBy, pairBy, shownBy, seekable, every, own, padding, rowReads, unitReads, markReads}
+use Rattle.shapes.specs.Searched.{everySecond, seen, digitIn, foundBy, few, tenOf, rowBy, pairBy, shownBy, seekable, own, padding, rowReads, unitReads, markReads}
 use Rattle.shapes.specs.Described.{gapIn, markIn, rowIn, unitIn, readable}
 use Rattle.shapes.proofs.Words.{row-length, pair-length}
 use Rattle.search.proofs.Found.{Bytes, mark-found, unit-found, few-rows}
@@ -97,9 +97,9 @@ own-some zero w e =
     omega arith
 own-some (suc k) w e = omega arith
 
-every-some : {P : Type 0} (n : ℕ) (test : ℕ → Bool) → 0 < n → every n test ≡ true → ((i : ℕ) → test i ≡ true → P) → P
-every-some zero test h e f = absurd (not-suc-le-zero h)
-every-some (suc n) test h e f = f n (both-left (test n) (every n test) e)
+upto-some : {P : Type 0} (n : ℕ) (test : ℕ → Bool) → 0 < n → upto n test ≡ true → ((i : ℕ) → test i ≡ true → P) → P
+upto-some zero test h e f = absurd (not-suc-le-zero h)
+upto-some (suc n) test h e f = f n (both-left (test n) (upto n test) e)
 
 -- what is sought at a place, against a number that is found
 record Sees (sets : List (List ℕ)) (q : Sought) (at k f : ℕ) : Type 0 where
@@ -149,7 +149,7 @@ module _ (sets : List (List ℕ)) (u : Unit) (reads : unitReads sets u ≡ true)
       go : (b : Bool) → ltb (u .elements) 10 ≡ b → 0 < u .elements
       go true e =
           let r = rw e at (both-right (seekable (length sets) u) _ reads) in
-          every-some (u .size) (rowReads sets u) h (both-left (every (u .size) (rowReads sets u)) _ (both-left (every (u .size) (rowReads sets u) && every (padding u) _) _ r))
+          upto-some (u .size) (rowReads sets u) h (both-left (upto (u .size) (rowReads sets u)) _ (both-left (upto (u .size) (rowReads sets u) && upto (padding u) _) _ r))
           (λ i q. own-some (u .elements) (wordAt sets (u .set) i) (both-left (own (u .elements) (wordAt sets (u .set) i)) _ q))
       go false e = omega (arith, ltb-false (u .elements) 10 e)
 

@@ -13,23 +13,23 @@ use mathlib.Core.Bool.{Bool, true, false, _&&_, _||_}
 use mathlib.Core.List.{List, [], _∷_, _++_, map}
 use Prim.Native.Nat.{ℕ, zero, suc, _+_, _*_, _-_, _/_, _%_, _^_, _<_, _≤_}
 use native.Mathlib.Omega.{arith}
-use native.Mathlib.Nat.{le-of-suc-le-suc, not-suc-le-zero, add-zero, pow-suc}
+use native.Mathlib.Nat.{add-zero, pow-suc}
 use lib.Dec.{eqb, ltb, leb}
 use lib.ListN.{length, getD, take, drop, length-map, length-drop, length-take}
 use lib.Seq.{length-take-le, take-suc, take-all, getD-take, getD-drop}
 use borrow.Author.Tests.{eqb-true, eqb-false, eq-eqb, ltb-true, ltb-false, leb-true, not-true}
-use Rattle.laws.specs.Search.{pick}
+use Rattle.laws.specs.Search.{pick, upto}
 use Rattle.laws.specs.Elements.{alike, find}
 use Rattle.laws.specs.Spelling.{counted}
-use Rattle.laws.proofs.Finite.{both-left, both-right, upto, upto-at}
+use Rattle.laws.proofs.Finite.{both-left, both-right, upto-at}
 use Rattle.laws.proofs.Search.{first-most}
 use Rattle.laws.proofs.Elements.{alike-true, alike-self, find-hit}
-use Rattle.laws.proofs.Spelling.{counted-length}
+use Rattle.laws.proofs.Spelling.{counted-length, numbered}
 use Rattle.tables.specs.Bits.{weave}
 use Rattle.shapes.specs.declared.parts.Mark.{Mark}
 use Rattle.shapes.specs.declared.parts.Unit.{Unit}
 use Rattle.shapes.specs.Sets.{low, bytes, top, wordOf, rowOf, wordAt}
-use Rattle.shapes.specs.Searched.{everySecond, seen, matches, digitIn, foundIn, foundBy, tenOf, few, rowBy, pairBy, shownBy, seekable, every, own, padding, rowReads, pairReads, unitReads, markReads}
+use Rattle.shapes.specs.Searched.{everySecond, seen, matches, digitIn, foundIn, foundBy, tenOf, few, rowBy, pairBy, shownBy, seekable, own, padding, rowReads, pairReads, unitReads, markReads}
 use Rattle.shapes.specs.Described.{rowIn}
 use Rattle.search.proofs.Bounds.{ten-bound}
 
@@ -113,13 +113,6 @@ mark-found m xs r e l b =
 
 -- ---- among numbered rows
 
-numbered : (f : ℕ → List ℕ) (i n j : ℕ) → j < n → getD (map f (counted i n)) j [] ≡ f (i + j)
-numbered f i zero j h = absurd (not-suc-le-zero h)
-numbered f i (suc n) zero h = ap f (omega arith)
-numbered f i (suc n) (suc j) h =
-    let e : suc i + j ≡ i + suc j = omega arith in
-    numbered f (suc i) n j (le-of-suc-le-suc h) ∙ ap f e
-
 record Row (f : ℕ → List ℕ) (n : ℕ) (xs : List ℕ) : Type 0 where
   pub at : ℕ
   pub below : at < n
@@ -153,13 +146,6 @@ module _ (f : ℕ → List ℕ) (n : ℕ) (xs : List ℕ) where
       go false e = none (eqb r 0) refl (ltb-false _ n e)
 
 -- ---- words in sets
-
-every-at : (n : ℕ) (test : ℕ → Bool) → every n test ≡ true → (i : ℕ) → i < n → test i ≡ true
-every-at n test e = upto-at n test (sym (agree n) ∙ e)
-  where
-    agree : (m : ℕ) → every m test ≡ upto m test
-    agree zero = refl
-    agree (suc m) = rw (agree m)
 
 record At (w : ℕ) (xs : List ℕ) : Type 0 where
   pub digit : ℕ
@@ -239,7 +225,7 @@ row-stands sets u w z n = go (leb (u .size) few) z n
         record { at = 10 * tenOf w + a .at; below = omega (arith, ten-bound w, a .below, five); is = word-on sets (u .set) (tenOf w) (a .at) ∙ a .is; some = a .some }
 
 -- behind the last row there is no word
-within-size : (sets : List (List ℕ)) (u : Unit) (c : ℕ) → every (padding u) (λ i. eqb (wordAt sets (u .set) (u .size + i)) 0) ≡ true
+within-size : (sets : List (List ℕ)) (u : Unit) (c : ℕ) → upto (padding u) (λ i. eqb (wordAt sets (u .set) (u .size + i)) 0) ≡ true
     → c < 10 * ((u .size + 9) / 10) → wordAt sets (u .set) c ≢ 0 → c < u .size
 within-size sets u c t h n = go (ltb c (u .size)) refl
   where
@@ -248,13 +234,13 @@ within-size sets u c t h n = go (ltb c (u .size)) refl
     go false e =
         let l : u .size ≤ c = ltb-false c (u .size) e in
         let q : u .size + (c - u .size) ≡ c = omega arith in
-        let z = every-at (padding u) (λ i. eqb (wordAt sets (u .set) (u .size + i)) 0) t (c - u .size) (omega arith) in
+        let z = upto-at (padding u) (λ i. eqb (wordAt sets (u .set) (u .size + i)) 0) t (c - u .size) (omega arith) in
         absurd (n (rw q at (eqb-true (wordAt sets (u .set) (u .size + (c - u .size))) 0 z)))
 
 -- what is tested of a unit of rows
 record Rows (sets : List (List ℕ)) (u : Unit) : Type 0 where
-  pub rows : every (u .size) (rowReads sets u) ≡ true
-  pub behind : every (padding u) (λ i. eqb (wordAt sets (u .set) (u .size + i)) 0) ≡ true
+  pub rows : upto (u .size) (rowReads sets u) ≡ true
+  pub behind : upto (padding u) (λ i. eqb (wordAt sets (u .set) (u .size + i)) 0) ≡ true
   pub sizes : sized (u .size) ≡ true
 
 module _ (sets : List (List ℕ)) (u : Unit) (r : Rows sets u) (xs : List ℕ) where
@@ -264,7 +250,7 @@ module _ (sets : List (List ℕ)) (u : Unit) (r : Rows sets u) (xs : List ℕ) w
   row-hit : (c : ℕ) → c < u .size → row c ≡ xs → rowBy sets u (seen (u .elements) xs) ≡ suc c
   row-hit c h e =
       let w : ℕ = wordAt sets (u .set) c in
-      let t : rowReads sets u c ≡ true = every-at (u .size) (rowReads sets u) (r .rows) c h in
+      let t : rowReads sets u c ≡ true = upto-at (u .size) (rowReads sets u) (r .rows) c h in
       let s : seen (u .elements) xs ≡ w = rw e at (own-seen (u .elements) w (both-left (own (u .elements) w) _ t)) in
       rw s (eqb-true _ (c + 1) (both-right (own (u .elements) w) _ t) ∙ omega arith)
 
@@ -302,7 +288,7 @@ woven (x ∷ y ∷ xs) e = rw (second-on y xs, woven xs (omega arith))
 five-back : (xs : List ℕ) → length xs ≡ 5 → Bytes xs → bytes 5 (low xs) ≡ xs
 five-back xs l b = rw l at (bytes-low xs b)
 
-module _ (sets : List (List ℕ)) (u : Unit) (r : every 100 (pairReads sets u) ≡ true) (xs : List ℕ) where
+module _ (sets : List (List ℕ)) (u : Unit) (r : upto 100 (pairReads sets u) ≡ true) (xs : List ℕ) where
   abbrev digit : ℕ → ℕ
   digit c = wordAt sets (u .set) c
 
@@ -313,7 +299,7 @@ module _ (sets : List (List ℕ)) (u : Unit) (r : every 100 (pairReads sets u) �
   pair-hit c h e =
       let a : ℕ = digit (c / 10) in
       let b : ℕ = digit (c % 10) in
-      let t : pairReads sets u c ≡ true = every-at 100 (pairReads sets u) r c h in
+      let t : pairReads sets u c ≡ true = upto-at 100 (pairReads sets u) r c h in
       let o : (own 5 a && own 5 b) ≡ true = both-left (own 5 a && own 5 b) _ t in
       let p : low (everySecond xs) ≡ a = rw (← e) (own-seen 5 a (both-left (own 5 a) _ o)) in
       let q : low (everySecond (drop 1 xs)) ≡ b = rw (← e) (own-seen 5 b (both-right (own 5 a) _ o)) in
@@ -357,8 +343,8 @@ module _ (sets : List (List ℕ)) (u : Unit) (r : every 100 (pairReads sets u) �
 
 reads-rows : (sets : List (List ℕ)) (u : Unit) → unitReads sets u ≡ true → ltb (u .elements) 10 ≡ true → Rows sets u
 reads-rows sets u r e =
-    let a : Bool = every (u .size) (rowReads sets u) in
-    let b : Bool = every (padding u) (λ i. eqb (wordAt sets (u .set) (u .size + i)) 0) in
+    let a : Bool = upto (u .size) (rowReads sets u) in
+    let b : Bool = upto (padding u) (λ i. eqb (wordAt sets (u .set) (u .size + i)) 0) in
     let t : (a && b && sized (u .size)) ≡ true = rw e at (both-right (seekable (length sets) u) _ r) in
     let f : (a && b) ≡ true = both-left (a && b) _ t in
     record { rows = both-left a b f; behind = both-right a b f; sizes = both-right (a && b) _ t }
@@ -367,11 +353,11 @@ reads-rows sets u r e =
 record Pairs (sets : List (List ℕ)) (u : Unit) : Type 0 where
   pub elements : u .elements ≡ 10
   pub size : u .size ≡ 100
-  pub pairs : every 100 (pairReads sets u) ≡ true
+  pub pairs : upto 100 (pairReads sets u) ≡ true
 
 reads-pairs : (sets : List (List ℕ)) (u : Unit) → unitReads sets u ≡ true → ltb (u .elements) 10 ≡ false → Pairs sets u
 reads-pairs sets u r e =
-    let t : (eqb (u .size) 100 && every 100 (pairReads sets u)) ≡ true = rw e at (both-right (seekable (length sets) u) _ r) in
+    let t : (eqb (u .size) 100 && upto 100 (pairReads sets u)) ≡ true = rw e at (both-right (seekable (length sets) u) _ r) in
     let s : seekable (length sets) u ≡ true = both-left (seekable (length sets) u) _ r in
     let m : u .elements ≤ 10 = leb-true _ 10 (both-left (leb (u .elements) 10) _ s) in
     record { elements = omega (arith, ltb-false (u .elements) 10 e); size = eqb-true _ 100 (both-left (eqb (u .size) 100) _ t); pairs = both-right (eqb (u .size) 100) _ t }

@@ -2,22 +2,21 @@
 --
 --   everySecond   the first of elements, the third, and so on
 --   seen          the word that k elements make; 0, which is no row's, where nine make none
+--   digitIn       the digit of a word in a set, which has ten, and one; 0 where it is not there
 --   matches       of words counted from d on, each that is the one sought counts its number and one: no two are the same
---   digitIn       the digit of a word in a set, and one; 0 where it is not there
 --   tens, spacesIn, tenOf    Code 39: the set in which a word can stand, a half-byte for each way in which four spaces can be wide
 --   foundIn       the number of a set's row that has a word, and one, or what was found before; foundBy, the same for k sets, the last first
 --   rowBy, pairBy, shownBy    the number of a unit's row, and one: by its word, by the words of its two digits, by its elements
---   few           up to so many rows are all looked through
+--   few           up to so many rows are all looked through; where there are more they are Code 39's, in five sets
 --   seekable      what the code needs of a unit where it looks for rows
---   every         a test at each number below n
 --   own           a row's word is the one that its elements make
 --   unitReads     each row of a unit is found by its own word, and behind the last one its sets hold none; markReads, a mark's word is its own
-use mathlib.Core.Bool.{Bool, true, _&&_, _||_, not}
+use mathlib.Core.Bool.{Bool, _&&_, _||_, not}
 use mathlib.Core.List.{List, [], _∷_}
 use Prim.Native.Nat.{ℕ, zero, suc, _+_, _*_, _-_, _/_, _%_, _^_}
 use lib.Dec.{eqb, ltb, leb}
 use lib.ListN.{length, getD, take, drop}
-use Rattle.laws.specs.Search.{pick}
+use Rattle.laws.specs.Search.{pick, upto}
 use Rattle.tables.specs.Bits.{bit}
 use Rattle.shapes.specs.declared.parts.Mark.{Mark}
 use Rattle.shapes.specs.declared.parts.Unit.{Unit}
@@ -83,10 +82,6 @@ seekable sets u =
     (pick (leb (u .size) few) (leb (10 * u .set + u .size) (10 * sets)) (leb (u .set + 5) sets))
     (ltb (u .set) sets)
 
-abbrev pub every : ℕ → (ℕ → Bool) → Bool
-every zero test = true
-every (suc n) test = test n && every n test
-
 abbrev pub own : ℕ → ℕ → Bool
 own k w = eqb (seen k (rowOf k w)) w && not (eqb w 0)
 
@@ -106,8 +101,8 @@ abbrev pub unitReads : List (List ℕ) → Unit → Bool
 unitReads sets u =
     seekable (length sets) u
     && pick (ltb (u .elements) 10)
-    (every (u .size) (rowReads sets u) && every (padding u) (λ i. eqb (wordAt sets (u .set) (u .size + i)) 0) && (leb (u .size) few || eqb ((u .size + 9) / 10) 5))
-    (eqb (u .size) 100 && every 100 (pairReads sets u))
+    (upto (u .size) (rowReads sets u) && upto (padding u) (λ i. eqb (wordAt sets (u .set) (u .size + i)) 0) && (leb (u .size) few || eqb ((u .size + 9) / 10) 5))
+    (eqb (u .size) 100 && upto 100 (pairReads sets u))
 
 abbrev pub markReads : Mark → Bool
 markReads m = eqb (m .elements) 0 || (leb (m .elements) 9 && own (m .elements) (m .word))

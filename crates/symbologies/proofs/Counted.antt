@@ -21,8 +21,8 @@ use native.Mathlib.Decide.{decLt}
 use lib.Dec.{leb}
 use lib.ListN.{getD, List·getD-eq-default}
 use borrow.Author.Tests.{eqb-false, leb-true, not-true}
-use Rattle.laws.specs.Search.{pick}
-use Rattle.laws.proofs.Finite.{both-left, both-right, upto, upto-at, From, from-at}
+use Rattle.laws.specs.Search.{pick, upto}
+use Rattle.laws.proofs.Finite.{both-left, both-right, upto-at, From, from-at}
 use Rattle.symbologies.specs.declared.limits.Limits.{Limits}
 use Rattle.symbologies.specs.Sizes.{places}
 use Rattle.symbologies.specs.Limits.{unknown, offered, holds, odd, added, drawable}

@@ -17,10 +17,10 @@ use native.Mathlib.Decide.{ℕ-discrete, decLt}
 use lib.Dec.{eqb, ltb, leb, lit≤}
 use lib.ListN.{length, getD, List·getD-eq-default}
 use borrow.Author.Tests.{ltb-true, leb-true, eqb-true}
-use Rattle.laws.specs.Search.{pick}
+use Rattle.laws.specs.Search.{pick, upto}
 use Rattle.laws.specs.Spelling.{Place, Coder}
 use Rattle.laws.specs.Rules.{Rule}
-use Rattle.laws.proofs.Finite.{both-left, both-right, upto, upto-at}
+use Rattle.laws.proofs.Finite.{both-left, both-right, upto-at}
 use Rattle.laws.proofs.Spelling.{Valid}
 use Rattle.laws.proofs.Fitting.{Keeps, free-inserted}
 use Rattle.laws.proofs.Rules.{Sound}

@@ -10,15 +10,15 @@ use mathlib.Core.Path.{_≡_, refl, ap, _∙_}
 use mathlib.Core.Logic.{_≢_}
 use mathlib.Core.Bool.{Bool, true, false, _||_}
 use mathlib.Core.List.{List, [], _∷_, _++_, map, append-nil}
-use Prim.Native.Nat.{ℕ, zero, suc, _+_, _*_, _/_, _%_, _<_, _≤_}
+use Prim.Native.Nat.{ℕ, _+_, _*_, _/_, _%_, _<_, _≤_}
 use native.Mathlib.Omega.{arith}
-use native.Mathlib.Nat.{le-of-suc-le-suc, not-suc-le-zero}
 use lib.Dec.{eqb, ltb, leb}
 use lib.ListN.{length, getD}
 use borrow.Author.Tests.{leb-true, ltb-true, ltb-false, lt-ltb, le-ltb, eq-eqb, ne-eqb}
 use Rattle.laws.specs.Units.{strip, fixed, free}
 use Rattle.laws.specs.Spelling.{counted}
 use Rattle.laws.proofs.Finite.{both-left, both-right}
+use Rattle.laws.proofs.Spelling.{numbered}
 use Rattle.tables.specs.Bits.{weave}
 use Rattle.shapes.specs.declared.parts.Mark.{Mark}
 use Rattle.shapes.specs.declared.parts.Unit.{Unit}
@@ -46,13 +46,6 @@ module _ (m : Mark) where
   mark-sized e n = sized 9 (m .elements) (rw (ne-eqb (m .elements) 0 n) at e)
 
 -- ---- units
-
-numbered : (f : ℕ → List ℕ) (i n j : ℕ) → j < n → getD (map f (counted i n)) j [] ≡ f (i + j)
-numbered f i zero j h = absurd (not-suc-le-zero h)
-numbered f i (suc n) zero h = ap f (omega arith)
-numbered f i (suc n) (suc j) h =
-    let e : suc i + j ≡ i + suc j = omega arith in
-    numbered f (suc i) n j (le-of-suc-le-suc h) ∙ ap f e
 
 module _ (sets : List (List ℕ)) (u : Unit) (c : ℕ) (h : c < u .size) where
   pub unit-shows : strip (unitIn sets u) (c ∷ []) ≡ strip (gapIn (u .gap)) [] ++ rowIn sets u c
