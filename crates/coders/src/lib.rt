@@ -1,5 +1,7 @@
 // What a byte draws where it stands, and the byte that draws a character or a pair, by symbology and mode (document 01, "What is drawn and
 // what is read", "Full ASCII"). A place is told by whether it is the first and whether it is the last.
+#![tactic(auto)]
+
 mod full_ascii;
 
 ghost use Rattle.std.specs.Prelude.{◌≡◌, false, [], ◌∷◌, ltb};

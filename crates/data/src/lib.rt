@@ -5,6 +5,8 @@
 //
 //   items       characters to data
 //   reading     the refusals, in their order
+#![tactic(auto)]
+
 mod items;
 mod reading;
 

@@ -7,6 +7,8 @@
 //
 //   kinds     what follows a kind byte
 //   run       the records that are held
+#![tactic(auto)]
+
 mod kinds;
 mod run;
 

@@ -133,7 +133,7 @@ back_one k start at b c bs (x ∷ g) z s o l e ih p to =
     let q : (c ≡ x) × (z ≡ found g) = push-some c z x g p in
     let n : ends bs ≡ ends g = same_end k false at bs g (e ∙ q.1) in
     let f : byte_for k (stands start g) (c ∷ []) ≡ b = rw (← n) o in
-    rw (← q.0, unspell-one k start to c g (λ u. s (n ∙ u)), f) (gave_some to b _ bs l (ih g q.1 (suc to)))
+    ap (λ (y : ℕ). unspell k start to (y ∷ g)) (sym q.0) ∙ unspell-one k start to c g (λ u. s (n ∙ u)) ∙ rw f (gave_some to b _ bs l (ih g q.1 (suc to)))
 
 back-two : (k : Coder) (start : Bool) (at b c d : ℕ) (bs h : List ℕ) (z : Reading) → k.shift (ends bs) c ≡ true → byte_for k (stands start bs) (c ∷ d ∷ []) ≡ b → b < 256
     → spell k false at bs ≡ z → ((g : List ℕ) → z ≡ found g → Back k false g bs) → push c (push d z) ≡ found h → Back k start h (b ∷ bs)
@@ -146,7 +146,8 @@ back-two k start at b c d bs (x ∷ y ∷ g) z s o l e ih p to =
     let n : ends bs ≡ ends g = same_end k false at bs g (e ∙ r.1) in
     let f : byte_for k (stands start g) (c ∷ d ∷ []) ≡ b = rw (← n) o in
     let t : k.shift (ends g) c ≡ true = rw (← n) s in
-    rw (← q.0, ← r.0, unspell-two k start to c d g t, f) (gave_some to b _ bs l (ih g r.1 (suc (suc to))))
+    ap (λ (w : ℕ). unspell k start to (w ∷ y ∷ g)) (sym q.0) ∙ ap (λ (w : ℕ). unspell k start to (c ∷ w ∷ g)) (sym r.0) ∙ unspell-two k start to c d g t ∙
+    rw f (gave_some to b _ bs l (ih g r.1 (suc (suc to))))
 
 back_step : (k : Coder) (start : Bool) (at b : ℕ) (bs h : List ℕ) → Drawn k (stands start bs) b
     → ((g : List ℕ) → spell k false (suc at) bs ≡ found g → Back k false g bs)

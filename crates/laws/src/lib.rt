@@ -5,6 +5,8 @@
 //
 // The main properties: what is drawn is read and what is read is drawn; a strip with one changed element is never read; a
 // weighted sum tells one replaced value, and exactly one check passes.
+#![tactic(auto)]
+
 ghost use Rattle.std.specs.Prelude.{◌≡◌};
 ghost use Rattle.laws.specs.Search.{index_in};
 

@@ -6,6 +6,8 @@
 //
 //   text      numbers in decimal and widths as digits, written at a place of a buffer
 //   sizes     the bytes of the longest line
+#![tactic(auto)]
+
 pub mod sizes;
 mod text;
 

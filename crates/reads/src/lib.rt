@@ -7,6 +7,8 @@
 //   position    the reading position, a struct of slice and place, and thin functions over the plain core (crate search)
 //   walk        the loop over a part's units, which hands the position from unit to unit, and in it the search over rows
 //   chars       characters from the rows that the units show
+#![tactic(auto)]
+
 mod chars;
 mod position;
 mod walk;

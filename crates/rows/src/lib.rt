@@ -7,6 +7,8 @@
 //
 //   spelling    data to characters
 //   drawing     the refusals, in their order
+#![tactic(auto)]
+
 mod drawing;
 mod spelling;
 

@@ -6,5 +6,7 @@
 //
 // The main properties: the parts that the code describes are the symbology's (`part_of`), and its words are the rows of source 001 (`sets`).
 // A part may be described in more than one way, and all that `part_of` may answer means the same part (proofs/Only.antt).
+#![tactic(auto)]
+
 pub mod parts;
 pub mod sets;

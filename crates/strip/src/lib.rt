@@ -11,6 +11,8 @@
 // field of just the data's length, and `read_strip` (specs/Reading.antt). Each is the first of a list of checks that applies.
 //
 // `c` has `draw` and `read` for callers from C.
+#![tactic(auto)]
+
 pub mod c;
 
 ghost use Rattle.std.specs.Prelude.{◌≡◌, true, length};

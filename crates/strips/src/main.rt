@@ -4,6 +4,8 @@
 // are held: whole records are printed and given up, and what is left, the beginning of a record, moves to the front, so that a record
 // that lies across any border is read whole. A read or a write that fails ends the run with a message on standard error and no last
 // line.
+#![tactic(auto)]
+
 ghost use Rattle.std.specs.Prelude.{◌≡◌, ◌&&◌, ◌≤◌, ltb, length};
 
 use jobs::Ended;

@@ -2,6 +2,8 @@
 //
 // The main property: a sum that was begun for a rule and has taken up characters has the rule's check of them (proofs/Sums.antt, `begins`
 // and `checks`); "its state after each character is the definition's" is `state`.
+#![tactic(auto)]
+
 ghost use Rattle.std.specs.Prelude.{◌≡◌, ℕ, ◌≤◌, [], ◌∷◌};
 ghost use Rattle.coders.specs.Pieces.{piece_list};
 ghost use Rattle.symbologies.specs.Symbologies.{symbology_of};

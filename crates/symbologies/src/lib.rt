@@ -11,6 +11,8 @@
 //
 // The main properties: every line is proper, so that what the theorems ask of a symbology is shown of all of them at once
 // (proofs/Proper.antt); and `row_of s m d` gives r exactly if `data_of s m r` gives d (proofs/Proper.antt, by proofs/Undo.antt).
+#![tactic(auto)]
+
 pub mod judging;
 pub mod lengths;
 mod limits;

@@ -4,6 +4,8 @@
 // Every lookup and every search is total. A value or a digit is a number from 0 on; the first number past the table
 // stands for "none", and what is looked up past the table is 0. Full ASCII (source 004, 10.1.3) is in specs/ alone: its code
 // is a `match` of the crate that expands data.
+#![tactic(auto)]
+
 pub mod codabar;
 pub mod code39;
 pub mod ean;

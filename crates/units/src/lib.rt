@@ -7,6 +7,8 @@
 //
 //   choices    which row each unit shows
 //   layout     the parts, by their description (crate shapes)
+#![tactic(auto)]
+
 mod choices;
 mod layout;
 

@@ -23,6 +23,8 @@
 // The file stdout is what must come out. It was not made by this program: it is the output of a second implementation of
 // document 01, of drawing and of reading, in Python and with tables of its own from the text of the sources, for the same vectors
 // in the same order.
+#![tactic(auto)]
+
 mod drawing;
 mod line;
 mod part;

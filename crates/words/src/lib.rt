@@ -5,6 +5,8 @@
 // the kind of place that its number has, and `say` gives the document's number, place, count and total for it.
 //
 // Whoever takes an answer apart does so through `say`: a later number is one more case here and no change to a caller.
+#![tactic(auto)]
+
 ghost use Rattle.std.specs.Prelude.{◌≡◌};
 ghost use Rattle.words.specs.Said.{refused, said_of};
 

@@ -3,6 +3,8 @@
 //
 // The main property: what stood before the place and behind the row stays, and between them stands the row (laws, `Put`). A caller has shown
 // that there is room.
+#![tactic(auto)]
+
 ghost use Rattle.std.specs.Prelude.{◌+◌, ◌≤◌, length};
 ghost use Rattle.laws.specs.Writing.{Put};
 ghost use Rattle.tables.specs.Bits.{weave};
