@@ -12,7 +12,7 @@ ghost use Rattle.symbologies.specs.Symbologies.{symbology_of};
 ghost use Rattle.coders.specs.Pieces.{piece_list, is_nil, drawn_as};
 
 // The characters that a byte draws: one, a shift character and a letter, or none where it is refused.
-#[derive(Drop)]
+#[derive(Clone, Copy)]
 pub enum Piece {
     Alone(u8),
     Pair(u8, u8),

@@ -13,7 +13,7 @@ use symbologies::sizes::PLACES;
 use words::CharPlace;
 
 // A byte, or 256, and the characters that draw it.
-#[derive(Drop)]
+#[derive(Clone, Copy)]
 pub struct Item {
     pub byte: u16,
     pub width: usize,
@@ -21,7 +21,7 @@ pub struct Item {
 
 // How many data bytes the characters spell, the place of the character where the first failing item begins, or the number of all, and
 // the sum of the characters beside the check that the data hold in mode 1.
-#[derive(Drop)]
+#[derive(Clone, Copy)]
 pub struct Measured {
     pub bytes: usize,
     pub bad: CharPlace,

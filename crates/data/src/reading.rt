@@ -12,7 +12,7 @@ use symbologies::sizes::PLACES;
 use words::{Answer, Bytes, CharPlace};
 
 // How many data bytes were handed back, or the answer that turns the row away.
-#[derive(Drop)]
+#[derive(Clone, Copy)]
 pub enum Handed {
     Data(Bytes),
     Turned(Answer),

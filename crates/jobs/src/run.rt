@@ -7,7 +7,7 @@ use super::kinds;
 use lines::sizes::LONGEST_LINE;
 
 // Why a call took no further record.
-#[derive(Drop)]
+#[derive(Clone, Copy)]
 pub enum Ended {
     // What is left is nothing, or the beginning of a record: more bytes are wanted, or the input has ended.
     More,
@@ -18,7 +18,7 @@ pub enum Ended {
 }
 
 // What a call took of the held bytes and wrote, and the numbers of records and of drawn ones behind it.
-#[derive(Drop)]
+#[derive(Clone, Copy)]
 pub struct Run {
     pub taken: usize,
     pub written: usize,

@@ -23,7 +23,7 @@ use symbologies::sizes::LONGEST;
 use words::Said;
 
 // Where a record's line ends, and whether the record was drawn.
-#[derive(Drop)]
+#[derive(Clone, Copy)]
 pub struct Written {
     pub next: usize,
     pub drawn: bool,

@@ -8,7 +8,7 @@ use search::seek::Sought;
 use shapes::parts::Unit;
 use words::ElementPlace;
 
-#[derive(Drop)]
+#[derive(Clone, Copy)]
 pub struct Position<'a> {
     pub strip: &'a [u8],
     pub at: ElementPlace,

@@ -16,7 +16,7 @@ use symbologies::sizes::PLACES;
 use words::ElementPlace;
 
 // Where the walk stands, and how many units of the part are left: none, or the one at that place is in no row.
-#[derive(Drop)]
+#[derive(Clone, Copy)]
 pub struct Walked {
     pub at: ElementPlace,
     pub left: usize,

@@ -13,7 +13,7 @@ use words::DataPlace;
 
 // How many characters came out, the place of the first byte that is not allowed, or the number of all, and the sum of the characters
 // beside the check that the data hold in mode 1.
-#[derive(Drop)]
+#[derive(Clone, Copy)]
 pub struct Spelled {
     pub len: usize,
     pub bad: DataPlace,

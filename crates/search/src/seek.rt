@@ -8,7 +8,7 @@ use shapes::parts::{Mark, Unit};
 use words::ElementPlace;
 
 // Whether a mark stands, where its elements begin, and the place behind it.
-#[derive(Drop)]
+#[derive(Clone, Copy)]
 pub struct Marked {
     pub at: ElementPlace,
     pub next: ElementPlace,
@@ -17,7 +17,7 @@ pub struct Marked {
 
 // What is sought where a unit should stand: its word, in so many sets from one on. `first` is the number that the unit gives the first row
 // of these sets. The unit begins at `at`, and `next` is behind it. No sets are looked through where no row can be.
-#[derive(Drop)]
+#[derive(Clone, Copy)]
 pub struct Sought {
     pub at: ElementPlace,
     pub next: ElementPlace,

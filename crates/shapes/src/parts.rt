@@ -6,7 +6,7 @@ ghost use Rattle.shapes.specs.Sets.{sets_of};
 ghost use Rattle.shapes.specs.Described.{count_in, closed, Describes};
 
 // A start, a stop, a guard or the centre: elements of one pattern, behind a parting space or not. One of no elements is none.
-#[derive(Drop)]
+#[derive(Clone, Copy)]
 pub struct Mark {
     pub gap: bool,
     pub elements: usize,
@@ -15,7 +15,7 @@ pub struct Mark {
 
 // A character or a pair: one of so many rows, from a set on, behind a parting space or not. Ten elements are a pair, woven of the rows of
 // its two digits.
-#[derive(Drop)]
+#[derive(Clone, Copy)]
 pub struct Unit {
     pub gap: bool,
     pub elements: usize,
@@ -24,7 +24,7 @@ pub struct Unit {
 }
 
 // How many units there are: so many, or as many as drawn characters, as those between two ends, or as pairs of them.
-#[derive(Drop)]
+#[derive(Clone, Copy)]
 pub enum Count {
     Of(usize),
     All,
@@ -33,7 +33,7 @@ pub enum Count {
 }
 
 // A mark, and then a number of like units.
-#[derive(Drop)]
+#[derive(Clone, Copy)]
 pub struct Part {
     pub mark: Mark,
     pub count: Count,

@@ -11,7 +11,7 @@ ghost use Rattle.std.specs.Prelude.{◌≡◌, ◌&&◌, ◌≤◌, ltb, length}
 use jobs::Ended;
 
 // What was given up of the held bytes, the numbers behind it, whether the run goes on, and whether there are more lines than room.
-#[derive(Drop)]
+#[derive(Clone, Copy)]
 struct Printed {
     taken: usize,
     records: u64,
@@ -41,7 +41,7 @@ fn main() {
 }
 
 // What is held after a turn, the numbers so far, and whether the run goes on.
-#[derive(Drop)]
+#[derive(Clone, Copy)]
 struct Turn {
     have: usize,
     records: u64,

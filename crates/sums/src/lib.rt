@@ -12,7 +12,7 @@ ghost use Rattle.sums.specs.Sums.{Small, Kept, wrapped, check_by, begun, own_in}
 use coders::Piece;
 
 // A weighted sum: the weights take turns. Its check is the remainder by the modulus, or what brings the sum up to a multiple of it.
-#[derive(Drop)]
+#[derive(Clone, Copy)]
 pub struct Sum {
     pub modulus: u8,
     pub up: bool,

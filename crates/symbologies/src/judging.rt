@@ -9,7 +9,7 @@ use super::limits::{is_odd, limits_of, offers, takes};
 use words::{Answer, DataPlace};
 
 // Whether there is nothing against an input, or the answer that turns it away.
-#[derive(Drop)]
+#[derive(Clone, Copy)]
 pub enum Verdict {
     Given,
     Turned(Answer),

@@ -8,7 +8,7 @@ use super::sizes::PLACES;
 // Data bytes at least and at most, by mode; a mode whose most is 0 is not offered. Whether the drawn count must be even, and how many
 // characters may be drawn. A strip of n characters has one element less than `step` times n and `more`, and one module less than `each`
 // times n and `rest`, if each of its characters has the most.
-#[derive(Drop)]
+#[derive(Clone, Copy)]
 pub struct Limits {
     pub known: bool,
     pub least: [u8; 3],

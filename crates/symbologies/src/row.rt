@@ -8,14 +8,14 @@ use super::judging::Verdict;
 use super::sizes::PLACES;
 use words::Answer;
 
-#[derive(Drop)]
+#[derive(Clone, Copy)]
 pub struct Row {
     pub codes: [u8; PLACES],
     pub len: usize,
 }
 
 // Whether lent places hold a row, and how many characters it has; where it is turned away they hold none.
-#[derive(Drop)]
+#[derive(Clone, Copy)]
 pub struct Filled {
     pub verdict: Verdict,
     pub len: usize,

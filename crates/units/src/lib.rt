@@ -22,7 +22,7 @@ use symbologies::sizes::LONGEST;
 use words::{Elements, Modules};
 
 // What became of a row.
-#[derive(Drop)]
+#[derive(Clone, Copy)]
 pub enum Laid {
     // Its strip is written: so many elements and modules.
     Strip(Elements, Modules),

@@ -75,7 +75,7 @@ fn digit(byte: u8) -> u8 {
 
 // How data are written: as text, in which a printed character stands for itself, or as widths, in which a digit stands for its
 // value. A backslash and two hexadecimal digits stand for any byte.
-#[derive(Drop)]
+#[derive(Clone, Copy)]
 pub enum Form {
     Text,
     Widths,

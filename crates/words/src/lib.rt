@@ -11,31 +11,31 @@ ghost use Rattle.std.specs.Prelude.{◌≡◌};
 ghost use Rattle.words.specs.Said.{refused, said_of};
 
 // The index of a byte in the data, or in the data field of a job record, whose first bytes are the data.
-#[derive(Drop)]
+#[derive(Clone, Copy)]
 pub struct DataPlace(pub usize);
 
 // The index of a drawn character in its row.
-#[derive(Drop)]
+#[derive(Clone, Copy)]
 pub struct CharPlace(pub usize);
 
 // The index of an element in its strip.
-#[derive(Drop)]
+#[derive(Clone, Copy)]
 pub struct ElementPlace(pub usize);
 
 // How many data bytes.
-#[derive(Drop)]
+#[derive(Clone, Copy)]
 pub struct Bytes(pub usize);
 
 // How many elements.
-#[derive(Drop)]
+#[derive(Clone, Copy)]
 pub struct Elements(pub usize);
 
 // How many modules.
-#[derive(Drop)]
+#[derive(Clone, Copy)]
 pub struct Modules(pub usize);
 
 // What is answered. The number that document 01 gives each case stands behind it.
-#[derive(Drop)]
+#[derive(Clone, Copy)]
 pub enum Answer {
     // 0, in drawing: so many elements are written.
     Drawn(Elements, Modules),
@@ -72,7 +72,7 @@ pub enum Answer {
 }
 
 // An answer as document 01 words it: number, place, count and total.
-#[derive(Drop)]
+#[derive(Clone, Copy)]
 pub struct Said {
     pub number: u8,
     pub place: usize,

@@ -1,0 +1,55 @@
+-- `value` gives table 4.1: each arm of the match is one test over the bytes that it takes.
+use Rattle.std.proofs.Common.{ℕ, List, [], ◌∷◌, ◌+◌, ◌-◌, refl, arith, rules}
+use Rattle.laws.specs.Search.{index_in}
+use Rattle.laws.proofs.Arms.{agree}
+use Rattle.tables.specs.Alphabet.{value_of}
+use Rattle.tables.specs.Codabar.{alphabet_codabar, table41}
+use Rattle.tables.proofs.codabar.value.Goals as goal
+
+-- the single characters, the last arm first
+abbrev keys : List ℕ
+keys = 43 ∷ 46 ∷ 47 ∷ 58 ∷ 36 ∷ 45 ∷ []
+
+pub returns-in-45 : goal.returns-in-45
+unfolding value_of alphabet_codabar table41 index_in
+returns-in-45 c = rw c.in-45.is
+
+pub returns-in-36 : goal.returns-in-36
+unfolding value_of alphabet_codabar table41 index_in
+returns-in-36 c = rw c.in-36.is
+
+pub returns-in-58 : goal.returns-in-58
+unfolding value_of alphabet_codabar table41 index_in
+returns-in-58 c = rw c.in-58.is
+
+pub returns-in-47 : goal.returns-in-47
+unfolding value_of alphabet_codabar table41 index_in
+returns-in-47 c = rw c.in-47.is
+
+pub returns-in-46 : goal.returns-in-46
+unfolding value_of alphabet_codabar table41 index_in
+returns-in-46 c = rw c.in-46.is
+
+pub returns-in-43 : goal.returns-in-43
+unfolding value_of alphabet_codabar table41 index_in
+returns-in-43 c = rw c.in-43.is
+
+pub returns-in-48-to-57 : goal.returns-in-48-to-57
+unfolding value_of alphabet_codabar table41 index_in
+returns-in-48-to-57 c = agree keys 45 13 (λ b. b - 48) (value_of alphabet_codabar) refl _ (omega arith) (omega arith) (search rules)
+
+pub returns-in-65-to-68 : goal.returns-in-65-to-68
+unfolding value_of alphabet_codabar table41 index_in
+returns-in-65-to-68 c = agree [] 65 4 (λ b. b - 65 + 16) (value_of alphabet_codabar) refl _ (omega arith) (omega arith) tt
+
+pub returns-in_default : goal.returns-in_default
+unfolding value_of alphabet_codabar table41 index_in
+returns-in_default c = agree keys 0 45 (λ b. 20) (value_of alphabet_codabar) refl _ (omega arith) (omega arith) (search rules)
+
+pub returns-in_default-2 : goal.returns-in_default-2
+unfolding value_of alphabet_codabar table41 index_in
+returns-in_default-2 c = agree keys 58 7 (λ b. 20) (value_of alphabet_codabar) refl _ (omega arith) (omega arith) (search rules)
+
+pub returns-in_default-3 : goal.returns-in_default-3
+unfolding value_of alphabet_codabar table41 index_in
+returns-in_default-3 c = agree [] 69 187 (λ b. 20) (value_of alphabet_codabar) refl _ (omega arith) (omega arith) tt
