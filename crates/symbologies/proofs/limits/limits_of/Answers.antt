@@ -10,8 +10,7 @@ use Rattle.symbologies.specs.Limits.{unknown}
 use Rattle.symbologies.specs.Checks.{no_check}
 use Rattle.symbologies.specs.Parts.{each}
 use Rattle.symbologies.specs.Symbologies.{Symbology, digits, symbologies, symbology_of}
-use Rattle.symbologies.proofs.limits.limits_of.Statement.{statement}
-use Rattle.symbologies.proofs.limits.limits_of.Tie as tie
+use Rattle.symbologies.proofs.limits.limits_of.Goals as goal
 
 other : (s : ℕ) → 10 ≤ s → unknown ≡ (symbology_of s).limits
 unfolding symbology_of symbologies
@@ -31,26 +30,33 @@ rest (suc (suc (suc (suc (suc (suc (suc (suc zero)))))))) a b c d e f g h i = ab
 rest (suc (suc (suc (suc (suc (suc (suc (suc (suc zero))))))))) a b c d e f g h i = absurd (i refl)
 rest (suc (suc (suc (suc (suc (suc (suc (suc (suc (suc n)))))))))) a b c d e f g h i = other (suc (suc (suc (suc (suc (suc (suc (suc (suc (suc n)))))))))) (omega arith)
 
-pub limits-of-spec : {M : Type 1} → statement M
-limits-of-spec =
-    tie.close
-    (tie.spec
-    (λ c κs. search rules)
-    (λ c κs. search rules)
-    (λ c κs. search rules)
-    (λ c κs. search rules)
-    (λ c κs. search rules)
-    (λ c κs. search rules)
-    (λ c κs. search rules)
-    (λ c κs. search rules)
-    (λ c κs. search rules)
-    (λ c. c.line.ensures ∙ unfold symbology_of symbologies in rw c.before.match.keys1)
-    (λ c. c.line2.ensures ∙ unfold symbology_of symbologies in rw c.before.match.keys2)
-    (λ c. c.line3.ensures ∙ unfold symbology_of symbologies in rw c.before.match.keys3)
-    (λ c. c.line4.ensures ∙ unfold symbology_of symbologies in rw c.before.match.keys4)
-    (λ c. c.line5.ensures ∙ unfold symbology_of symbologies in rw c.before.match.keys5)
-    (λ c. c.line6.ensures ∙ unfold symbology_of symbologies in rw c.before.match.keys6)
-    (λ c. c.line7.ensures ∙ unfold symbology_of symbologies in rw c.before.match.keys7)
-    (λ c. c.line8.ensures ∙ unfold symbology_of symbologies in rw c.before.match.keys8)
-    (λ c. c.line9.ensures ∙ unfold symbology_of symbologies in rw c.before.match.keys9)
-    (λ c. let k = c.match.rest in rest _ k.0.0.0.0.0.0.0.0.1 k.0.0.0.0.0.0.0.1 k.0.0.0.0.0.0.1 k.0.0.0.0.0.1 k.0.0.0.0.1 k.0.0.0.1 k.0.0.1 k.0.1 k.1))
+pub returns-in-1 : goal.returns-in-1
+returns-in-1 c = c.line.ensures ∙ unfold symbology_of symbologies in rw c.in-1.is
+
+pub returns-in-2 : goal.returns-in-2
+returns-in-2 c = c.line-in-2.ensures ∙ unfold symbology_of symbologies in rw c.in-2.is
+
+pub returns-in-3 : goal.returns-in-3
+returns-in-3 c = c.line-in-3.ensures ∙ unfold symbology_of symbologies in rw c.in-3.is
+
+pub returns-in-4 : goal.returns-in-4
+returns-in-4 c = c.line-in-4.ensures ∙ unfold symbology_of symbologies in rw c.in-4.is
+
+pub returns-in-5 : goal.returns-in-5
+returns-in-5 c = c.line-in-5.ensures ∙ unfold symbology_of symbologies in rw c.in-5.is
+
+pub returns-in-6 : goal.returns-in-6
+returns-in-6 c = c.line-in-6.ensures ∙ unfold symbology_of symbologies in rw c.in-6.is
+
+pub returns-in-7 : goal.returns-in-7
+returns-in-7 c = c.line-in-7.ensures ∙ unfold symbology_of symbologies in rw c.in-7.is
+
+pub returns-in-8 : goal.returns-in-8
+returns-in-8 c = c.line-in-8.ensures ∙ unfold symbology_of symbologies in rw c.in-8.is
+
+pub returns-in-9 : goal.returns-in-9
+returns-in-9 c = c.line-in-9.ensures ∙ unfold symbology_of symbologies in rw c.in-9.is
+
+pub returns-in_default : goal.returns-in_default
+returns-in_default c =
+    rest _ (search rules) (search rules) (search rules) (search rules) (search rules) (search rules) (search rules) (search rules) (search rules)
