@@ -1,0 +1,10 @@
+-- `ten_of`: the half-byte of the definition.
+-- Assumes nothing.
+use mathlib.Core.Path.{refl}
+use borrow.Author.Rules.{rules}
+use Rattle.shapes.specs.Searched.{ten_of}
+use Rattle.search.proofs.seek.ten_of.Goals as goal
+
+pub returns : goal.returns
+unfolding ten_of
+returns c = refl

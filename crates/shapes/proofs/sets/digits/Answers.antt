@@ -1,0 +1,11 @@
+-- `digits`: the words as they stand in the code are those of the table's rows, by computation.
+-- Assumes nothing.
+use mathlib.Core.Path.{refl}
+use Rattle.tables.specs.TwoOfFive.{digit_rows, alphabet_digits, table44}
+use Rattle.tables.specs.Alphabet.{rows_of}
+use Rattle.shapes.specs.Sets.{sets_digits}
+use Rattle.shapes.proofs.sets.digits.Goals as goal
+
+pub returns : goal.returns
+unfolding sets_digits digit_rows alphabet_digits table44 rows_of
+returns c = refl
