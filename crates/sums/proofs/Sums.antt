@@ -165,7 +165,7 @@ module _ (s n : ℕ) (r : Sum) where
 
 -- ---- and what it stands for
 
-kinds : (s : ℕ) → ((1 ≤ s) × (s < 3)) ⊎ (((4 ≤ s) × (s < 10)) ⊎ ((s ≡ 0) ⊎ ((s ≡ 3) ⊎ (10 ≤ s))))
+pub kinds : (s : ℕ) → ((1 ≤ s) × (s < 3)) ⊎ (((4 ≤ s) × (s < 10)) ⊎ ((s ≡ 0) ⊎ ((s ≡ 3) ⊎ (10 ≤ s))))
 kinds s = go (dec_lt s 1) (dec_lt s 3) (dec_lt s 4) (dec_lt s 10)
   where
     go : Dec (s < 1) → Dec (s < 3) → Dec (s < 4) → Dec (s < 10) → ((1 ≤ s) × (s < 3)) ⊎ (((4 ≤ s) × (s < 10)) ⊎ ((s ≡ 0) ⊎ ((s ≡ 3) ⊎ (10 ≤ s))))

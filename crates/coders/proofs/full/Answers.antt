@@ -1,6 +1,5 @@
 -- `full`: by the two tests, a raw character or the drawing code.
 -- Assumes nothing.
-use borrow.Author.Rules.{rules}
 use borrow.Author.Tests.{eq-eqb, ne_eqb}
 use Rattle.tables.specs.Code39.{chars39, alphabet39}
 use Rattle.symbologies.specs.Coders.{plain, full_coder, raw_coder}

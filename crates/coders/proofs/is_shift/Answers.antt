@@ -1,7 +1,6 @@
 -- `is_shift`: /, + and % begin a pair, where full ASCII is drawn.
 -- Assumes nothing.
 use mathlib.Core.Path.{◌∙◌}
-use borrow.Author.Rules.{rules}
 use Rattle.coders.proofs.Numbers.{as-shift, shift-low, shift_from, unshifted}
 use Rattle.coders.proofs.is_shift.Goals as goal
 

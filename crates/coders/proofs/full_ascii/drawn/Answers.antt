@@ -11,7 +11,7 @@ use mir.Syntax.{w8}
 use mir.Val.{Fits}
 use borrow.Author.Tests.{leb-true}
 use Rattle.laws.specs.Search.{index_in}
-use Rattle.laws.proofs.Arms.{agree, alike-there}
+use Rattle.laws.proofs.Arms.{alike-there}
 use Rattle.tables.specs.Alphabet.{value_of}
 use Rattle.tables.specs.Code39.{alphabet39, chars39}
 use Rattle.tables.specs.FullAscii.{drawing, ranges}

@@ -2,8 +2,6 @@
 -- Assumes nothing.
 use Prim.Native.Nat.{◌+◌}
 use native.Mathlib.Omega.{arith}
-use borrow.Author.Rules.{rules}
-use borrow.Author.Tests.{ne_eqb}
 use Rattle.search.proofs.Matches.{digit-bound}
 use Rattle.search.proofs.seek.found_in.Goals as goal
 

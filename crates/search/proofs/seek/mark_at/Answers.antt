@@ -2,11 +2,7 @@
 -- Assumes nothing.
 use mathlib.Core.Bool.{not}
 use mathlib.Core.Path.{ap}
-use Prim.Native.Nat.{◌+◌}
-use native.Mathlib.Omega.{arith}
-use lib.ListN.{length}
-use borrow.Author.Rules.{rules}
-use Rattle.search.proofs.Places.{within, parted-inside, mark-none, mark-apart, mark-past, mark-there}
+use Rattle.search.proofs.Places.{mark-none, mark-apart, mark-past, mark-there}
 use Rattle.search.proofs.seek.mark_at.Goals as goal
 
 pub returns-then-k-eq0 : goal.returns-then-k-eq0
@@ -20,9 +16,9 @@ returns-then-not-is_parted c =
 pub returns-then-not-reaches : goal.returns-then-not-reaches
 returns-then-not-reaches c =
     let a = c.args in
-    mark-past a.mark a.strip.now a.place.0 c.if-k-eq0.false c.is_parted.ensures (ap not c.if-not-is_parted.false) c.behind-at.ensures c.reaches.ensures c.if-not-reaches.true
+    mark-past a.mark a.strip.now a.place.0 c.if-k-eq0.false c.is_parted.ensures (ap not c.if-not-is_parted.false) c.behind-at.ensures c.reaches.ensures (ap not c.if-not-reaches.true)
 
 pub returns : goal.returns
 returns c =
     let a = c.args in
-    mark-there a.mark a.strip.now a.place.0 c.if-k-eq0.false c.is_parted.ensures (ap not c.if-not-is_parted.false) c.behind-at.ensures c.reaches.ensures c.if-not-reaches.false c.word_at.ensures
+    mark-there a.mark a.strip.now a.place.0 c.if-k-eq0.false c.is_parted.ensures (ap not c.if-not-is_parted.false) c.behind-at.ensures c.reaches.ensures (ap not c.if-not-reaches.false) c.word_at.ensures

@@ -3,10 +3,9 @@
 use mathlib.Core.Path.{◌≡◌}
 use native.Mathlib.Omega.{arith}
 use lib.ListN.{length}
-use borrow.Author.Rules.{rules}
 use borrow.Author.Tests.{le-ltb, le-leb, lt-leb}
 use Rattle.search.specs.Sought.{sought_in}
-use Rattle.search.proofs.Bounds.{seek-most, seek-pair, seek-tens, ten-bound}
+use Rattle.search.proofs.Bounds.{seek-most, seek-tens, ten-bound}
 use Rattle.search.proofs.seek.seek_at.Goals as goal
 
 pub returns-then-k-gt9 : goal.returns-then-k-gt9

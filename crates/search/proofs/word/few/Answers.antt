@@ -1,10 +1,8 @@
 -- `few`: each element is a byte more of the word.
 -- Assumes nothing.
 use mathlib.Core.Path.{◌≡◌}
-use Prim.Native.Nat.{◌+◌}
 use native.Mathlib.Omega.{arith}
-use borrow.Author.Rules.{rules}
-use Rattle.search.proofs.Low.{low-one, low-two, low-three, low-four}
+use Rattle.search.proofs.Low.{low-four}
 use Rattle.search.proofs.word.few.Goals as goal
 
 pub returns-in_default : goal.returns-in_default

@@ -1,9 +1,6 @@
 -- `five_at`: every second element is a byte more of the word.
 -- Assumes nothing.
 use mathlib.Core.Path.{sym}
-use Prim.Native.Nat.{◌+◌}
-use native.Mathlib.Omega.{arith}
-use borrow.Author.Rules.{rules}
 use Rattle.search.proofs.Low.{second-five}
 use Rattle.search.proofs.word.five_at.Goals as goal
 
