@@ -44,7 +44,7 @@ pub fn draw_row(symbology: u8, row: Row, out: &mut [u8]) -> Laid
     }
     let mut room = [0; LONGEST];
     layout::build(&mut room, symbology, &codes, n);
-    bytes::copy(&room[..count], out);
+    out[..count].copy_from_slice(&room[..count]);
     Laid::Strip(
         Elements(count),
         Modules(lengths::modules_of(symbology, &codes, n)),
