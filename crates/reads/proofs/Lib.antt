@@ -1,5 +1,4 @@
-mod Pieces
-mod Hand
+pub mod Turns
 pub mod Units
 pub mod Rows
 pub mod Parts

@@ -40,7 +40,7 @@ use Rattle.symbologies.specs.Sizes.{places}
 use Rattle.symbologies.specs.Parts.{Shown, halved, parities_in, side_at}
 use Rattle.symbologies.specs.Symbologies.{symbologies, symbology_of}
 use Rattle.symbologies.specs.Rows.{count_checks}
-use Rattle.symbologies.specs.Strips.{units_of, counted, count_for, chars_of, row-seen}
+use Rattle.symbologies.specs.Strips.{units_of, counted, count_for, chars_of, row_seen}
 use Rattle.symbologies.specs.Told.{pad, told, filled_as, judged_count}
 use Rattle.symbologies.proofs.Verdicts.{judged-none, judged-turned}
 use Rattle.symbologies.proofs.Numbers.{only-seven}
@@ -240,15 +240,15 @@ given_counted s m n e =
     drawn-counted s m n (not-false _ q.1.0) (not-false _ q.1.1.0)
 
 module _ (s m : ℕ) (t : List ℕ) (n : ℕ) (is : n ≡ count_for s (length t)) where
-  seen-behind : row-seen s m t ≡ first_of turned (count_checks (symbology_of s) m n) (shown s n (read (units_of s n) t))
-  unfolding row-seen
+  seen-behind : row_seen s m t ≡ first_of turned (count_checks (symbology_of s) m n) (shown s n (read (units_of s n) t))
+  unfolding row_seen
   seen-behind = rw is
 
-  pub turned-seen : (x : Answer) → judged_count s m n ≡ Turned x → told (turned x) ≡ told (row-seen s m t)
+  pub turned-seen : (x : Answer) → judged_count s m n ≡ Turned x → told (turned x) ≡ told (row_seen s m t)
   unfolding judged_count
   turned-seen x e = ap told (sym (seen-behind ∙ judged-turned turned (count_checks (symbology_of s) m n) x _ e))
 
-  pub given-seen : judged_count s m n ≡ Given → told (shown s n (read (units_of s n) t)) ≡ told (row-seen s m t)
+  pub given-seen : judged_count s m n ≡ Given → told (shown s n (read (units_of s n) t)) ≡ told (row_seen s m t)
   unfolding judged_count
   given-seen e =
       let cs : List Check = count_checks (symbology_of s) m n in

@@ -22,7 +22,7 @@ use borrow.Author.Tests.{eqb-true, eqb-false, ne_eqb, ltb-true, ltb-false, le-lt
 use Rattle.laws.specs.Search.{pick, upto}
 use Rattle.laws.specs.Elements.{alike, find}
 use Rattle.laws.specs.Units.{Kind, fixed, free, width, Reading, stopped, push, next, read_at}
-use Rattle.laws.specs.Shapes.{many, gap}
+use Rattle.laws.specs.Shapes.{many}
 use Rattle.laws.specs.Spelling.{counted}
 use Rattle.laws.proofs.Finite.{both_left, both_right}
 use Rattle.laws.proofs.Elements.{alike-true, find-hit, stretch-long}

@@ -32,7 +32,7 @@ use Rattle.tables.specs.Alphabet.{size}
 use Rattle.symbologies.specs.Limits.{drawable}
 use Rattle.symbologies.specs.Symbologies.{Symbology, symbology_of}
 use Rattle.symbologies.specs.Rows.{row_drawn, row_checks, row_of_field, row_of, data_read, data_checks, data_of_count, data_of}
-use Rattle.symbologies.specs.Strips.{elements_of, units_of, strip_of, counted, ready, count_for, row-read, seen_checks, row_seen}
+use Rattle.symbologies.specs.Strips.{elements_of, units_of, strip_of, counted, ready, count_for, row_read, seen_checks, row_seen}
 use Rattle.symbologies.proofs.Proper.{proper, undo}
 use Rattle.symbologies.proofs.Undo.{Reads, reads}
 use Rattle.symbologies.proofs.Catches.{replaced}
@@ -118,7 +118,7 @@ module _ (s m : ℕ) (t out : List ℕ) where
 pub seen-data : (s m : ℕ) (t r : List ℕ) → row_seen s m t ≡ gives r → data_seen s m t ≡ outcome (data_checks (symbology_of s) m r) (data_read (symbology_of s) m r)
 unfolding row_seen data_seen
 seen-data s m t r e =
-    first-given turned (seen_checks s m t) (data_checks (symbology_of s) m) (λ x. gives (data_read (symbology_of s) m x)) (row-read s t) r e
+    first-given turned (seen_checks s m t) (data_checks (symbology_of s) m) (λ x. gives (data_read (symbology_of s) m x)) (row_read s t) r e
 
 -- 1, 2 and 9 have nothing against it
 shown-data : (s m : ℕ) (t r : List ℕ) → Shown s m t r → data_of s m r ≡ outcome (data_checks (symbology_of s) m r) (data_read (symbology_of s) m r)
@@ -134,12 +134,12 @@ read_back s m d t w = seen_as s m t w.row (rw (← w.drawing) (drawn-seen s m d 
 draws-back : (s m : ℕ) (d t : List ℕ) → data_seen s m t ≡ gives d → Draws s m d t
 unfolding data_seen
 draws-back s m d t e =
-    let n : None (seen_checks s m t) = (none-split (seen_checks s m t) (data_checks (symbology_of s) m (row-read s t)) (given (data_seen_checks s m t) _ d e).0).0 in
-    let q : row_seen s m t ≡ gives (row-read s t) = unfold row_seen in none-on turned (seen_checks s m t) _ n in
+    let n : None (seen_checks s m t) = (none-split (seen_checks s m t) (data_checks (symbology_of s) m (row_read s t)) (given (data_seen_checks s m t) _ d e).0).0 in
+    let q : row_seen s m t ≡ gives (row_read s t) = unfold row_seen in none-on turned (seen_checks s m t) _ n in
     record {
-      row = row-read s t;
-      accepted = (undo s m d (row-read s t)).1 (sym (seen_as s m t (row-read s t) q) ∙ e);
-      drawing = (seen-drawn s m t (row-read s t) q).1;
+      row = row_read s t;
+      accepted = (undo s m d (row_read s t)).1 (sym (seen_as s m t (row_read s t) q) ∙ e);
+      drawing = (seen-drawn s m t (row_read s t) q).1;
     }
 
 pub read-exactly : (s m : ℕ) (d t : List ℕ) → (data_seen s m t ≡ gives d) ↔ Draws s m d t
