@@ -1,5 +1,4 @@
--- One answer for each input of this crate's public functions, and one content of the lent buffer. Where the answer is written as four
--- numbers, they are a lent buffer too.
+-- One answer for each input of this crate's public functions, and one content of the lent buffer.
 -- Assumes nothing.
 use Rattle.laws.specs.One.{One, OneBuffer}
 use Rattle.laws.proofs.Only.{only}
@@ -9,10 +8,6 @@ use Rattle.strip.proofs.draw_field.Reads as DrawField
 use Rattle.strip.proofs.draw_field.Kinds as DrawFieldKinds
 use Rattle.strip.proofs.read.Reads as ReadStrip
 use Rattle.strip.proofs.read.Kinds as ReadStripKinds
-use Rattle.strip.proofs.c.strip_draw.Reads as DrawForC
-use Rattle.strip.proofs.c.strip_draw.Kinds as DrawForCKinds
-use Rattle.strip.proofs.c.strip_read.Reads as ReadForC
-use Rattle.strip.proofs.c.strip_read.Kinds as ReadForCKinds
 
 pub draw : One 2 DrawKinds.ps DrawKinds.r Draw.Learnt
 draw κs a p q x y h k = only h.0 k.0
@@ -31,15 +26,3 @@ read κs a p q x y h k = only h.0 k.0
 
 pub read-buffer : OneBuffer 2 ReadStripKinds.ps ReadStripKinds.r (λ κs x. x.1.1.1.0.now) ReadStrip.Learnt
 read-buffer κs a p q x y h k = only h.1 k.1
-
-pub strip-draw : OneBuffer 3 DrawForCKinds.ps DrawForCKinds.r (λ κs x. x.1.1.1.1.0.now) DrawForC.Learnt
-strip-draw κs a p q x y h k = only h.0 k.0
-
-pub strip-draw-buffer : OneBuffer 3 DrawForCKinds.ps DrawForCKinds.r (λ κs x. x.1.1.1.0.now) DrawForC.Learnt
-strip-draw-buffer κs a p q x y h k = only h.1 k.1
-
-pub strip-read : OneBuffer 3 ReadForCKinds.ps ReadForCKinds.r (λ κs x. x.1.1.1.1.0.now) ReadForC.Learnt
-strip-read κs a p q x y h k = only h.0 k.0
-
-pub strip-read-buffer : OneBuffer 3 ReadForCKinds.ps ReadForCKinds.r (λ κs x. x.1.1.1.0.now) ReadForC.Learnt
-strip-read-buffer κs a p q x y h k = only h.1 k.1

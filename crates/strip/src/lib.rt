@@ -9,11 +9,7 @@
 //
 // One definition gives the answer and the buffer of a call: `draw_field` (specs/Drawing.antt), of which `draw` is the case of a
 // field of just the data's length, and `read_strip` (specs/Reading.antt). Each is the first of a list of checks that applies.
-//
-// `c` has `draw` and `read` for callers from C.
 #![tactic(auto)]
-
-pub mod c;
 
 ghost use Rattle.std.specs.Prelude.{◌≡◌, true, length};
 ghost use Rattle.symbologies.specs.Sizes.{places};

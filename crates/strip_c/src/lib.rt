@@ -1,10 +1,12 @@
-// `draw` and `read` for callers from C: the answer is written as four numbers. include/strip.h declares both calls.
+// `draw` and `read` of the crate `strip` for callers from C: the answer is written as four numbers. include/strip.h declares both calls.
+#![tactic(auto)]
+
 ghost use Rattle.std.specs.Prelude.{◌≡◌};
 ghost use Rattle.strip.specs.Drawing.{draw_data};
 ghost use Rattle.strip.specs.Reading.{read_strip};
 ghost use Rattle.strip.specs.Four.{four_of};
 
-use super::{draw, read};
+use strip::{draw, read};
 use words::Answer;
 
 // The strip of data.
