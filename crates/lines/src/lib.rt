@@ -94,7 +94,7 @@ pub fn end_line(records: u64, drawn: u64, out: &mut [u8]) -> usize
     if out.len() < LONGEST_LINE {
         return 0;
     }
-    let a = bytes::copy(b"end ", out);
+    let a = put_word(b"end ", out);
     let b = text::put_number(records, b' ', out, a);
     text::put_number(drawn, b'\n', out, b)
 }
@@ -107,6 +107,17 @@ pub fn stop_line(records: u64, out: &mut [u8]) -> usize
     if out.len() < LONGEST_LINE {
         return 0;
     }
-    let a = bytes::copy(b"stop ", out);
+    let a = put_word(b"stop ", out);
     text::put_number(records, b'\n', out, a)
+}
+
+// A word at the buffer's front, and the place behind it.
+fn put_word(word: &[u8], out: &mut [u8]) -> usize
+    requires { length word.now ≤ length out.old }
+    ensures value { result ≡ length word.now }
+    ensures out_after { out.new ≡ front word.now out.old }
+{
+    let n = word.len();
+    out[..n].copy_from_slice(word);
+    n
 }

@@ -1,0 +1,10 @@
+-- `count_digits`: one digit for each division by ten, and one for what is left below ten.
+-- Assumes nothing.
+use Rattle.lines.proofs.Digits.{Counting}
+use Rattle.lines.proofs.text.count_digits.Given as goal
+
+abbrev pub invariant-loop-left : goal.invariant-loop-left
+invariant-loop-left l = Counting l.n l.left l.k
+
+abbrev pub decreases-loop-left : goal.decreases-loop-left
+decreases-loop-left l = l.left
