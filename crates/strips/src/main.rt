@@ -6,9 +6,11 @@
 // line.
 #![tactic(auto)]
 
-ghost use Rattle.std.specs.Prelude.{◌≡◌, ◌&&◌, ◌≤◌, ltb, length};
+ghost use Rattle.std.specs.Prelude.{◌≡◌, ◌+◌, ◌&&◌, ◌≤◌, ltb, length, IfOk};
 
 use jobs::Ended;
+use std::io;
+use std::io::{Read, Write};
 
 // What was given up of the held bytes, the numbers behind it, whether the run goes on, and whether there are more lines than room.
 #[derive(Clone, Copy)]
@@ -20,9 +22,9 @@ struct Printed {
     full: bool,
 }
 
-fn main() {
-    let mut held = io::large_buffer();
-    let mut room = io::large_buffer();
+fn main(rt: HostRuntime) {
+    let mut held = [0; 65536];
+    let mut room = [0; 65536];
     let mut have = 0;
     let mut records = 0;
     let mut drawn = 0;
@@ -30,7 +32,7 @@ fn main() {
     let mut turns = u64::MAX;
     while turns > 0 {
         turns -= 1;
-        let turn = read_some(&mut held, have, records, drawn, &mut room);
+        let turn = read_some(&rt, &mut held, have, records, drawn, &mut room);
         if !turn.on {
             return;
         }
@@ -50,21 +52,30 @@ struct Turn {
 }
 
 // Reads once behind what is held, prints the whole records, and keeps the rest.
-fn read_some(held: &mut [u8], have: usize, records: u64, drawn: u64, room: &mut [u8]) -> Turn
+fn read_some(
+    rt: &HostRuntime,
+    held: &mut [u8],
+    have: usize,
+    records: u64,
+    drawn: u64,
+    room: &mut [u8],
+) -> Turn
     requires { have ≤ length held.old }
     ensures { result.have ≤ length held.old }
 {
-    let got = read_behind(held, have);
-    if got < 0 {
-        os::fail(b"strips: read");
-        return over();
-    }
+    let got = match read_behind(rt, held, have) {
+        Ok(got) => got,
+        Err(error) => {
+            fail(rt, "read", error);
+            return over();
+        }
+    };
     if got == 0 {
-        finish(have, records, drawn, room);
+        finish(rt, have, records, drawn, room);
         return over();
     }
-    let end = have + io::count(got, &held[have..]);
-    let printed = print_held(&held[..end], records, drawn, room);
+    let end = have + got;
+    let printed = print_held(rt, &held[..end], records, drawn, room);
     let left = keep(held, printed.taken, end);
     Turn {
         have: left,
@@ -74,10 +85,19 @@ fn read_some(held: &mut [u8], have: usize, records: u64, drawn: u64, room: &mut 
     }
 }
 
-fn read_behind(held: &mut [u8], have: usize) -> isize
+fn read_behind(rt: &HostRuntime, held: &mut [u8], have: usize) -> io::Result<usize>
     requires { have ≤ length held.old }
+    ensures { IfOk result (λ got. have + got ≤ length held.old) }
 {
-    libc::read(libc::STDIN_FILENO, &mut held[have..])
+    rt.stdin().read(&mut held[have..])
+}
+
+// Says on standard error what failed, and why.
+fn fail(rt: &HostRuntime, what: &str, error: io::Error) {
+    match eprintln!(rt; "strips: {what}: {error}") {
+        Ok(()) => {}
+        Err(_) => {}
+    }
 }
 
 fn over() -> Turn
@@ -92,7 +112,7 @@ fn over() -> Turn
 }
 
 // Prints the whole records at the front of the held bytes, a roomful of lines at a time.
-fn print_held(held: &[u8], records: u64, drawn: u64, room: &mut [u8]) -> Printed
+fn print_held(rt: &HostRuntime, held: &[u8], records: u64, drawn: u64, room: &mut [u8]) -> Printed
     ensures { result.taken ≤ length held.now }
 {
     let mut taken = 0;
@@ -100,7 +120,7 @@ fn print_held(held: &[u8], records: u64, drawn: u64, room: &mut [u8]) -> Printed
     let mut good = drawn;
     let mut on = true;
     while taken < held.len() {
-        let part = print_some(&held[taken..], number, good, room);
+        let part = print_some(rt, &held[taken..], number, good, room);
         number = part.records;
         good = part.drawn;
         on = part.on;
@@ -120,14 +140,14 @@ fn again(part: Printed) -> bool
 }
 
 // One roomful.
-fn print_some(held: &[u8], records: u64, drawn: u64, room: &mut [u8]) -> Printed
+fn print_some(rt: &HostRuntime, held: &[u8], records: u64, drawn: u64, room: &mut [u8]) -> Printed
     ensures { result.taken ≤ length held.now }
 {
     let run = jobs::run_held(held, records, drawn, room);
-    let written = print(room, run.written);
+    let written = print(rt, room, run.written);
     let ended = run.ended;
     if is_stopped(ended) {
-        stop(written, run.records, room);
+        stop(rt, written, run.records, room);
         return report(run.taken, run.records, run.drawn, false, false);
     }
     report(
@@ -170,32 +190,36 @@ fn has_more(written: bool, ended: Ended) -> bool {
 }
 
 // The last line where the run ends at an unknown kind, if the lines before it were written.
-fn stop(written: bool, records: u64, room: &mut [u8]) {
+fn stop(rt: &HostRuntime, written: bool, records: u64, room: &mut [u8]) {
     if written {
         let n = lines::stop_line(records, room);
-        print(room, n);
+        print(rt, room, n);
     }
 }
 
 // The last line where the input ends, between two records or within one.
-fn finish(have: usize, records: u64, drawn: u64, room: &mut [u8]) {
+fn finish(rt: &HostRuntime, have: usize, records: u64, drawn: u64, room: &mut [u8]) {
     if have == 0 {
         let n = lines::end_line(records, drawn, room);
-        print(room, n);
+        print(rt, room, n);
     } else {
-        stop(true, records, room);
+        stop(rt, true, records, room);
     }
 }
 
 // Writes the first n bytes of the room, and says so where that fails.
-fn print(room: &[u8], n: usize) -> bool {
-    if n <= room.len() {
-        if io::write_all(libc::STDOUT_FILENO, &room[..n]) {
-            return true;
+fn print(rt: &HostRuntime, room: &[u8], n: usize) -> bool {
+    if n > room.len() {
+        fail(rt, "write", io::Error::from(io::ErrorKind::WriteZero));
+        return false;
+    }
+    match rt.stdout().write_all(&room[..n]) {
+        Ok(()) => true,
+        Err(error) => {
+            fail(rt, "write", error);
+            false
         }
     }
-    os::fail(b"strips: write");
-    false
 }
 
 // Moves what is held behind the taken bytes to the front: its count.
