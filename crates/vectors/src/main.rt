@@ -31,37 +31,59 @@ mod part;
 mod reading;
 mod vector;
 
+ghost use Rattle.std.specs.Prelude.{◌≤◌, length, IfOk};
+
+use std::io;
+use std::io::Read;
+
 // An input that fills the buffer may go on behind it, and is a bad line.
-fn main() {
-    let mut space = io::large_buffer();
-    let count = io::read_full(0, &mut space);
+fn main(rt: HostRuntime) -> io::Result<()> {
+    let mut space = [0; 65536];
+    let count = read_full(&rt, &mut space)?;
     if count < 65536 {
-        run_lines(&space[0..count]);
+        run_lines(&rt, &space[0..count])
     } else {
-        line::bad();
+        line::bad(&rt)
     }
 }
 
+// Reads until the input ends or the buffer is full: how many bytes.
+fn read_full(rt: &HostRuntime, buffer: &mut [u8]) -> io::Result<usize>
+    ensures { IfOk result (λ n. n ≤ length buffer.new) }
+{
+    let mut done = 0;
+    while done < buffer.len() {
+        let got = rt.stdin().read(&mut buffer[done..])?;
+        if got == 0 {
+            break;
+        }
+        done += got;
+    }
+    Ok(done)
+}
+
 // Bytes behind the last line end are a bad line.
-fn run_lines(input: &[u8]) {
+fn run_lines(rt: &HostRuntime, input: &[u8]) -> io::Result<()> {
     let mut from = 0;
     let mut at = 0;
     while at < input.len() {
         if input[at] == b'\n' {
-            run_line(input, from, at);
+            run_line(rt, input, from, at)?;
             from = at + 1;
         }
         at += 1;
     }
     if from < at {
-        line::bad();
+        line::bad(rt)?;
     }
+    Ok(())
 }
 
-fn run_line(input: &[u8], from: usize, end: usize) {
+fn run_line(rt: &HostRuntime, input: &[u8], from: usize, end: usize) -> io::Result<()> {
     if from <= end {
         if end <= input.len() {
-            vector::run(&input[from..end]);
+            return vector::run(rt, &input[from..end]);
         }
     }
+    Ok(())
 }

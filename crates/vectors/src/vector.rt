@@ -1,37 +1,37 @@
 // A line of the input. What it asks is drawn or read, or it is bad and said to be so.
 use crate::{drawing, line, part, reading};
+use std::io;
 use symbologies::sizes::LONGEST;
 
-pub fn run(vector: &[u8]) {
+pub fn run(rt: &HostRuntime, vector: &[u8]) -> io::Result<()> {
     if vector.len() == 0 {
-        return;
+        return Ok(());
     }
     if vector[0] == b'#' {
-        return;
+        return Ok(());
     }
     let symbology = part::number(vector, 2);
     let mode = part::number(vector, 3);
     if symbology < 256 {
         if mode < 256 {
-            run_by_word(vector, symbology as u8, mode as u8);
-            return;
+            return run_by_word(rt, vector, symbology as u8, mode as u8);
         }
     }
-    line::bad();
+    line::bad(rt)
 }
 
-fn run_by_word(vector: &[u8], symbology: u8, mode: u8) {
+fn run_by_word(rt: &HostRuntime, vector: &[u8], symbology: u8, mode: u8) -> io::Result<()> {
     if part::begins(vector, b"draw ") {
-        drawing::draw_text(vector, symbology, mode, LONGEST, 4);
+        drawing::draw_text(rt, vector, symbology, mode, LONGEST, 4)
     } else if part::begins(vector, b"lent ") {
-        drawing::draw_text(vector, symbology, mode, part::number(vector, 4), 5);
+        drawing::draw_text(rt, vector, symbology, mode, part::number(vector, 4), 5)
     } else if part::begins(vector, b"field ") {
-        drawing::draw_field(vector, symbology, mode);
+        drawing::draw_field(rt, vector, symbology, mode)
     } else if part::begins(vector, b"read ") {
-        reading::read_widths(vector, symbology, mode, 40, 4);
+        reading::read_widths(rt, vector, symbology, mode, 40, 4)
     } else if part::begins(vector, b"into ") {
-        reading::read_widths(vector, symbology, mode, part::number(vector, 4), 5);
+        reading::read_widths(rt, vector, symbology, mode, part::number(vector, 4), 5)
     } else {
-        line::bad();
+        line::bad(rt)
     }
 }
