@@ -2,7 +2,6 @@
 -- Assumes nothing.
 use mathlib.Core.Path.{sym}
 use native.Mathlib.Omega.{arith}
-use borrow.Author.Rules.{rules}
 use Rattle.laws.proofs.Writing.{then, same_text, same_place}
 use Rattle.shapes.proofs.Words.{bytes-add}
 use Rattle.writers.proofs.eight.Goals as goal

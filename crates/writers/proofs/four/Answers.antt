@@ -2,8 +2,6 @@
 -- Assumes nothing.
 use mathlib.Core.Path.{sym}
 use native.Mathlib.Omega.{arith}
-use lib.ListN.{length-set}
-use borrow.Author.Rules.{rules}
 use Rattle.laws.proofs.Writing.{same_text}
 use Rattle.writers.proofs.Bytes.{four-put, shifted4}
 use Rattle.writers.proofs.four.Goals as goal

@@ -2,7 +2,6 @@
 -- Assumes nothing.
 use mathlib.Core.Path.{refl}
 use native.Mathlib.Omega.{arith}
-use borrow.Author.Rules.{rules}
 use Rattle.writers.proofs.Bytes.{lapped}
 use Rattle.writers.proofs.put.Goals as goal
 

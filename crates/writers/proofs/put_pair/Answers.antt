@@ -1,6 +1,5 @@
 -- `put_pair`: a bar and a space at a time.
 -- Assumes nothing.
-use borrow.Author.Rules.{rules}
 use Rattle.writers.proofs.Bytes.{crossed}
 use Rattle.writers.proofs.put_pair.Goals as goal
 
