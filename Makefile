@@ -4,7 +4,7 @@
 # Proves and builds the program, then prints the lines of a day's intake.
 run: examples/intake.job
 	sh .ci/packages run
-	rt check strips
+	sh .ci/build
 	sh tools/strips < examples/intake.job
 
 # The list is what a person edits. The job made of it is kept beside it, and the gate holds the two together.

@@ -1,4 +1,4 @@
-//! Finds the proved library: in STRIP_LIB_DIR, or where `rt staticlib strip` leaves it in this repository.
+//! Finds the proved library: in STRIP_LIB_DIR, or where `sh .ci/build` leaves it in this repository.
 
 use std::path::{Path, PathBuf};
 
@@ -13,7 +13,7 @@ fn main() {
     println!("cargo:rerun-if-changed={}", archive.display());
     if !archive.is_file() {
         eprintln!("no library at {}", archive.display());
-        eprintln!("make it with `rt staticlib strip`, or say in STRIP_LIB_DIR where libstrip.a stands");
+        eprintln!("make it with `sh .ci/build`, or say in STRIP_LIB_DIR where libstrip.a stands");
         std::process::exit(1);
     }
     println!("cargo:rustc-link-search=native={}", dir.display());
