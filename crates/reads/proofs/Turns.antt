@@ -1,7 +1,7 @@
 -- What one more unit, and one more set, gives.
 --
 --   comes       what is left comes to, by what is found at the next unit
---   one_more    so much it comes to, by what is sought there; none_left, where no unit is left
+--   one_more    so much it comes to, by what is sought there
 --   found_behind, set_more    what is found in a set of those that are looked through, and all of them, the last first
 --
 -- Assumes nothing.
@@ -31,9 +31,6 @@ one_more sets x l (suc m) at place zs y lt e =
     ap (λ (z : Sought). comes sets x l (suc m) place zs z (found_of sets z)) e
     ∙ ap (λ (k : ℕ). pick (eqb (found_of sets (sought_of sets x l at)) 0) (stop (sought_of sets x l at).at.0 (suc m) zs) (walk_by sets x l k (sought_of sets x l at).next.0 (place + 1) (set zs place ((found_of sets (sought_of sets x l at) - 1) % 256))))
     (less_one m)
-
-pub none_left : (sets : List (List ℕ)) (x : Like) (l : List ℕ) (j at place : ℕ) (zs : List ℕ) → j ≡ 0 → stop at j zs ≡ walk_by sets x l j at place zs
-none_left sets x l j at place zs e = rw e
 
 abbrev pub found_behind : List (List ℕ) → Sought → ℕ → ℕ → ℕ
 found_behind sets y i f = found_in sets (y.set + i) (y.first + 10 * i) y.word f

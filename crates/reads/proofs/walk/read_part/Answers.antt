@@ -11,11 +11,11 @@ read_units-requires c =
 pub returns-then-mark : goal.returns-then-mark
 returns-then-mark c =
     let a = c.args in
-    part-goes a.strip.now (λ i. omega (arith, c.shared_slice_known-1.given i)) a.sets.now a.part a.count a.from.0 a.first a.codes.now c.requires.0
+    part-goes a.strip.now (λ i. omega (arith, c.type_inv.strip i)) a.sets.now a.part a.count a.from.0 a.first a.codes.now c.requires.0
     c.mark_at-mark.result c.mark_at-mark.ensures c.requires.1 c.if-mark.true _ _ c.read_units.ensures.0 c.read_units.ensures.1
 
 pub returns : goal.returns
 returns c =
     let a = c.args in
-    part-stops a.strip.now (λ i. omega (arith, c.shared_slice_known-1.given i)) a.sets.now a.part a.count a.from.0 a.first a.codes.now c.requires.0
+    part-stops a.strip.now (λ i. omega (arith, c.type_inv.strip i)) a.sets.now a.part a.count a.from.0 a.first a.codes.now c.requires.0
     c.mark_at-mark.result c.mark_at-mark.ensures c.if-mark.false

@@ -10,7 +10,7 @@ use Rattle.search.proofs.word.nine.Goals as goal
 pub overflow_add-result-2 : goal.overflow_add-result-2
 overflow_add-result-2 c =
     let a = c.args in
-    omega (arith, c.several.ensures, nine-bound a.strip.now c.shared_slice_known-1.given a.at (omega arith))
+    omega (arith, c.several.ensures, nine-bound a.strip.now (λ i. omega (arith, c.type_inv.strip i)) a.at (omega arith))
 
 pub returns : goal.returns
 returns c =

@@ -9,12 +9,12 @@ use Rattle.search.proofs.word.several.Goals as goal
 pub overflow_mul-result : goal.overflow_mul-result
 overflow_mul-result c =
     let a = c.args in
-    omega (arith, c.few-3.ensures, few-bound a.strip.now c.shared_slice_known-1.given (a.k - 4) (a.at + 4) (omega arith))
+    omega (arith, c.few-3.ensures, few-bound a.strip.now (λ i. omega (arith, c.type_inv.strip i)) (a.k - 4) (a.at + 4) (omega arith))
 
 pub overflow_add-result : goal.overflow_add-result
 overflow_add-result c =
     let a = c.args in
-    let b = few-bound a.strip.now c.shared_slice_known-1.given in
+    let b = few-bound a.strip.now (λ i. omega (arith, c.type_inv.strip i)) in
     omega (arith, c.few-2.ensures, c.few-3.ensures, b 4 a.at (omega arith), b (a.k - 4) (a.at + 4) (omega arith))
 
 pub returns : goal.returns
