@@ -1,6 +1,6 @@
 -- Which bytes are kinds, and how long their bodies are.
 --
---   none-behind    above 9 there is no kind
+--   none-behind    above 9 there is no kind; known-most, a kind is at most 9
 --   body-none      a body of no bytes is that of no kind; body-some, any other that of a kind
 --   body-field     a kind's body is mode, count and field; body-long, so it is two bytes at least
 --   body-most      no record is longer than 37 bytes
@@ -16,7 +16,7 @@ use Rattle.laws.specs.Search.{pick}
 use Rattle.laws.proofs.Finite.{both_right, upto-at}
 use Rattle.jobs.specs.Kinds.{fields, field_of, known, body_of}
 
-known-most : (k : ℕ) → known k ≡ true → k ≤ 9
+pub known-most : (k : ℕ) → known k ≡ true → k ≤ 9
 unfolding known
 known-most k e = leb-true k 9 (both_right (leb 1 k) (leb k 9) e)
 

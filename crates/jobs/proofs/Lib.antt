@@ -1,4 +1,5 @@
 pub mod Bodies
+pub mod Numbers
 pub mod Runs
 pub mod Pieces
 pub mod Promise
