@@ -12,7 +12,8 @@
 --
 --   demand 1    one-answer-draw, one-buffer-draw, and so for -field and -read; draw-in-order, field-in-order, read-in-order; draw-five,
 --               draw-six, draw-thirteen, field-five, field-six, read-eleven, read-twelve; draw-leaves, field-leaves, read-leaves
---   demand 2    draw-draws, draw-drew, field-drew; read-hands-back, read-turns-away, read-wants-room; read-undoes-draw
+--   demand 2    draw-draws, draw-drew, draw-counts, field-draws, field-drew, field-counts; read-hands-back, read-turns-away,
+--               read-wants-room; read-undoes-draw
 --   demand 3    same-strip; element-refused; character-refused
 --   ticket 2    digits-swapped; code39-swapped, check-swapped; swapped-handed-back, swapped-refused; full-swapped, full-check-swapped
 --
@@ -36,14 +37,14 @@ use Rattle.words.specs.Said.{said_of}
 use Rattle.words.specs.Order.{first_of, gives, char_place, byte_count, element_count, module_count}
 use Rattle.tables.specs.Alphabet.{size}
 use Rattle.symbologies.specs.Symbologies.{symbology_of}
-use Rattle.symbologies.specs.Rows.{row_of}
+use Rattle.symbologies.specs.Rows.{row_of_field, row_of}
 use Rattle.symbologies.specs.Strips.{elements_of, modules_of, strip_of}
 use Rattle.strip.specs.Bench.{chars_of}
 use Rattle.strip.specs.Drawing.{Call, drawing_checks, draw_field, draw_data, drawn_answer}
 use Rattle.strip.specs.Reading.{reading_checks, handed_answer}
 use Rattle.strip.proofs.Order.{draw-first, read_first}
 use Rattle.strip.proofs.Alone.{five-alone, six-alone, no-thirteen, eleven-alone, twelve-alone}
-use Rattle.strip.proofs.Requests.{Draws, draw-whole, drawn-is, draw-keeps, data-keeps, same_bytes, read_whole, read-drawn, one-element, one-character, read_keeps}
+use Rattle.strip.proofs.Requests.{Draws, field-whole, draw-whole, drawn-is, drawn-counts, draw-keeps, data-keeps, same_bytes, read_whole, read-drawn, one-element, one-character, read_keeps}
 use Rattle.strip.proofs.Exchanges.{Exchanged, one, other, Named, digits-valid, before-valid, last-valid, handed-back, turned-back, full-before}
 use Rattle.strip.proofs.Only as Only
 use Rattle.strip.proofs.draw.Reads as Draw
@@ -140,6 +141,11 @@ drew : (s m count : ℕ) (field out next : List ℕ) (p : Answer) → p ≡ (dra
     → Draws s m (take count field) (take (said_of p).count next)
 drew s m count field out next p a b e = rw (a, b) (drawn-is s m count field out (rw a at e))
 
+-- of this strip the answer counts the length and totals the widths
+counts : (s m count : ℕ) (field out next : List ℕ) (p : Answer) → p ≡ (draw_field s m count field out).answer → next ≡ (draw_field s m count field out).buffer → number p ≡ 0
+    → ((said_of p).count ≡ length (take (said_of p).count next)) × ((said_of p).total ≡ sum (take (said_of p).count next))
+counts s m count field out next p a b e = rw (a, b) (drawn-counts s m count field out (rw a at e))
+
 module _ (c : Allowed Draw.Learnt) where
   as-field : c.answer ≡ (draw_field (symbology c) (mode c) (length (given c)) (given c) (room c)).answer
   as-field = c.allows.0 ∙ ap (λ (z : Call). z.answer) (data-field (symbology c) (mode c) (given c) (room c))
@@ -181,6 +187,13 @@ module _ (c : Allowed Draw.Learnt) where
       (drew (symbology c) (mode c) (length (given c)) (given c) (room c) (after c) c.answer as-field
       (c.allows.1 ∙ ap (λ (z : Call). z.buffer) (data-field (symbology c) (mode c) (given c) (room c))) e)
 
+  -- whose length it counts and whose widths it totals
+  pub draw-counts : number c.answer ≡ 0
+      → ((said_of c.answer).count ≡ length (take (said_of c.answer).count (after c))) × ((said_of c.answer).total ≡ sum (take (said_of c.answer).count (after c)))
+  draw-counts =
+      counts (symbology c) (mode c) (length (given c)) (given c) (room c) (after c) c.answer as-field
+      (c.allows.1 ∙ ap (λ (z : Call). z.buffer) (data-field (symbology c) (mode c) (given c) (room c)))
+
 -- ---- the call `draw_field`
 
 module _ (c : AllowedField) where
@@ -200,9 +213,22 @@ module _ (c : AllowedField) where
   pub field-leaves : number c.answer ≢ 0 → after-in c ≡ room_in c
   field-leaves n = c.allows.1 ∙ draw-keeps (kind c) (mode-in c) (count c) (field c) (room_in c) (rw (← c.allows.0) n)
 
-  -- demand 2: where the answer is 0, the first elements of the buffer, as many as it counts, are the strip of the field's data
+  -- demand 2, of a field whose bytes behind the data are zero: the strip of its data, and what stood behind it in the buffer
+  pub field-draws : (r : List ℕ) → row_of_field (kind c) (mode-in c) (count c) (field c) ≡ gives r → elements_of (kind c) (length r) ≤ length (room_in c)
+      → (c.answer ≡ Drawn (element_count (elements_of (kind c) (length r))) (module_count (modules_of (kind c) r)))
+      × (after-in c ≡ strip_of (kind c) r ++ drop (elements_of (kind c) (length r)) (room_in c))
+  field-draws r e l =
+      let w = field-whole (kind c) (mode-in c) (count c) (field c) (room_in c) r e l in
+      (c.allows.0 ∙ ap (λ (z : Call). z.answer) w, c.allows.1 ∙ ap (λ (z : Call). z.buffer) w)
+
+  -- and where the answer is 0, the first elements of the buffer, as many as it counts, are the strip of the field's data
   pub field-drew : number c.answer ≡ 0 → Draws (kind c) (mode-in c) (take (count c) (field c)) (take (said_of c.answer).count (after-in c))
   field-drew = drew (kind c) (mode-in c) (count c) (field c) (room_in c) (after-in c) c.answer c.allows.0 c.allows.1
+
+  -- whose length it counts and whose widths it totals
+  pub field-counts : number c.answer ≡ 0
+      → ((said_of c.answer).count ≡ length (take (said_of c.answer).count (after-in c))) × ((said_of c.answer).total ≡ sum (take (said_of c.answer).count (after-in c)))
+  field-counts = counts (kind c) (mode-in c) (count c) (field c) (room_in c) (after-in c) c.answer c.allows.0 c.allows.1
 
 -- ---- the call `read`
 

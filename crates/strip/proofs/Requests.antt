@@ -3,7 +3,7 @@
 --
 --   Draws          an accepted request draws a strip
 --   draw-given, draw-turned                                  drawing, by the row of a field
---   draw-whole, drew-row, drawn-is                           demand 2, drawing
+--   field-whole, draw-whole, drew-row, drawn-is, drawn-counts     demand 2, drawing
 --   read-given, read-turned                                  reading, by the data that are seen; seen-data, seen_as, by the row
 --   read-exactly, read_whole, read-drawn                     demand 2, reading (`read-exactly` for the reader: both directions in one)
 --   same_bytes, one-element, one-character                   demand 3; relaid-seen, of rows that are laid out anew
@@ -18,6 +18,7 @@ use Prim.Native.Nat.{ℕ, ◌<◌, ◌≤◌}
 use lib.ListN.{length, get_or, take, drop, set, length-set}
 use lib.Seq.{take_at}
 use borrow.Author.Tests.{le-ltb, lt-ltb}
+use Rattle.laws.specs.Elements.{sum}
 use Rattle.laws.specs.Units.{Fits}
 use Rattle.laws.proofs.Spelling.{Below, below_set}
 use Rattle.laws.proofs.Fitting.{at}
@@ -36,7 +37,7 @@ use Rattle.symbologies.proofs.Proper.{proper, undo}
 use Rattle.symbologies.proofs.Undo.{Reads, reads}
 use Rattle.symbologies.proofs.Catches.{replaced}
 use Rattle.symbologies.proofs.Ready.{ready-counted, ready-below, free-set, below-allowed, no-codabar, drawn-ready, ready-fits, all-good}
-use Rattle.symbologies.proofs.Totals.{elements}
+use Rattle.symbologies.proofs.Totals.{elements, modules}
 use Rattle.symbologies.proofs.Counting.{same_count}
 use Rattle.symbologies.proofs.Shown.{Shown, shown-row}
 use Rattle.symbologies.proofs.Exact.{ready-seen, drawn-seen, seen-drawn}
@@ -66,9 +67,12 @@ module _ (s m count : ℕ) (field out : List ℕ) where
       let r : List ℕ = row_drawn (symbology_of s) m (take count field) in
       first-turned (refused out) (row_checks (symbology_of s) m count field) (short_for s r out ∷ []) r a (drawn s r out) e
 
+  pub field-whole : (r : List ℕ) → row_of_field s m count field ≡ gives r → elements_of s (length r) ≤ length out → draw_field s m count field out ≡ drawn s r out
+  field-whole r e l = draw-given r e ∙ rw (le-ltb (length out) (elements_of s (length r)) l)
+
 pub draw-whole : (s m : ℕ) (d r out : List ℕ) → row_of s m d ≡ gives r → elements_of s (length r) ≤ length out → draw_data s m d out ≡ drawn s r out
 unfolding draw_data row_of
-draw-whole s m d r out e l = draw-given s m (length d) d out r e ∙ rw (le-ltb (length out) (elements_of s (length r)) l)
+draw-whole s m d r out e l = field-whole s m (length d) d out r e l
 
 -- a call that answers 0 drew the row of its data
 pub record Drew (s m count : ℕ) (field out : List ℕ) : Type 0 where
@@ -100,6 +104,19 @@ drawn-is s m count field out e =
       accepted = f;
       drawing = rw (w.whole, take_at (strip_of s w.row) (drop (elements_of s (length w.row)) out) (elements_of s (length w.row)) (elements s w.row h));
     }
+
+-- and its answer counts their number and totals their modules
+pub drawn-counts : (s m count : ℕ) (field out : List ℕ) → (said_of (draw_field s m count field out).answer).number ≡ 0
+    → ((said_of (draw_field s m count field out).answer).count
+    ≡ length (take (said_of (draw_field s m count field out).answer).count (draw_field s m count field out).buffer))
+    × ((said_of (draw_field s m count field out).answer).total
+    ≡ sum (take (said_of (draw_field s m count field out).answer).count (draw_field s m count field out).buffer))
+drawn-counts s m count field out e =
+    let w : Drew s m count field out = drew-row s m count field out e in
+    let h : ready s w.row ≡ true = drawn-ready s m (take count field) w.row (field-data s m count field w.row w.given-row) in
+    let n : length (strip_of s w.row) ≡ elements_of s (length w.row) = elements s w.row h in
+    rw (w.whole, take_at (strip_of s w.row) (drop (elements_of s (length w.row)) out) (elements_of s (length w.row)) n)
+    (sym n, sym (modules s w.row h))
 
 -- "The reader, told symbology and mode and lent room enough, hands back the data of the request that draws this strip,
 -- and turns a strip away exactly if no accepted request of that symbology and mode draws it."
