@@ -4,38 +4,46 @@
 --   elements-printed    "Elements for n drawn characters"
 --   of_codabar, light    12 for each digit, - or $, 14 for each other character; the values 0 to 11 are those of the digits, - and $
 --   modules-printed     "Total modules", and "Totals 95, 67, 95"
+--   listed, nine        "A strip length for 9 must come from a drawn count that the mode can give": the list behind these words, and that the
+--                       definitions have it, a test of every count up to 35; nine-past, no mode gives more
+--   numbers             the numbers of a list of checks
+--   row-numbers, seen-numbers, data-numbers    of this crate's lists, in the document's words
 --   requests    1 to 7, and which of two comes first
 --   fields      3, 13 and 4 in this order
 --   rows        9, 12 and 7 in this order
 --   corners     all of them are answered so
+--   at_once     a pair more of which two come at once, 3 before 13 and 12 before 7; corners-at-once, they are answered so
 --
 -- Assumes nothing.
 use mathlib.Core.Path.{◌≡◌, refl}
-use mathlib.Core.Bool.{Bool, true, false}
+use mathlib.Core.Bool.{Bool, true, false, ◌&&◌, not}
 use mathlib.Core.List.{List, [], ◌∷◌, ◌++◌, map}
-use Prim.Native.Nat.{ℕ, ◌+◌, ◌*◌, ◌-◌}
+use Prim.Native.Nat.{ℕ, ◌+◌, ◌*◌, ◌-◌, ◌%◌, ◌<◌}
 use Prim.Native.String.{String}
 use native.Mathlib.Omega.{arith}
-use lib.Dec.{ltb}
+use lib.Dec.{eqb, ltb, leb}
 use lib.ListN.{length}
-use Rattle.laws.specs.Search.{pick, index_in}
+use Rattle.laws.specs.Search.{pick, index_in, upto}
 use Rattle.laws.specs.Elements.{sum}
 use Rattle.laws.specs.Spelling.{counted, byte_for}
 use Rattle.laws.specs.Rules.{check_of}
 use Rattle.words.specs.declared.Answer.{Answer}
 use Rattle.words.specs.declared.Answer.TheVariants.{NoSymbology, NoMode, BadCount, BadByte, OddCount, TooManyDrawn, BadCheck, BadLength, NoExpansion, FieldNotZero}
-use Rattle.words.specs.Order.{Outcome, gives, turned, data_place, char_place}
+use Rattle.words.specs.Said.{said_of}
+use Rattle.words.specs.Order.{Check, Outcome, gives, turned, data_place, char_place}
 use Rattle.tables.specs.Printed.{text}
 use Rattle.tables.specs.Alphabet.{value_of, byte_of}
 use Rattle.tables.specs.FullAscii.{drawing, ranges}
 use Rattle.tables.specs.Code39.{alphabet39, chars39, table42}
 use Rattle.tables.specs.Codabar.{alphabet_codabar, table41}
 use Rattle.tables.specs.TwoOfFive.{alphabet_digits, table44}
+use Rattle.symbologies.specs.Limits.{offered, drawable}
 use Rattle.symbologies.specs.Coders.{plain, codabar_coder, full_coder, raw_coder, shifts}
 use Rattle.symbologies.specs.Checks.{by43, right10, no_check}
-use Rattle.symbologies.specs.Symbologies.{symbology_of, symbologies}
-use Rattle.symbologies.specs.Rows.{row_of, row_of_field, data_of_count, data_of}
-use Rattle.symbologies.specs.Strips.{elements_of, modules_of}
+use Rattle.symbologies.specs.Symbologies.{Symbology, symbology_of, symbologies}
+use Rattle.symbologies.specs.Rows.{row_checks, row_of, row_of_field, data_checks, data_of_count, data_of}
+use Rattle.symbologies.specs.Strips.{elements_of, modules_of, counted as drawn_counted, seen_checks}
+use Rattle.symbologies.proofs.Counted.{counted-few}
 use Rattle.symbologies.proofs.Totals.{level-modules}
 
 -- ---- the formulas
@@ -95,6 +103,50 @@ modules-printed r = (
   λ n. omega (arith, level-modules 8 (λ c. refl) r),
   λ n. omega (arith, level-modules 9 (λ c. refl) r),
 )
+
+-- ---- the list for 9
+
+-- a sentence that speaks of some symbologies only
+abbrev only : Bool → Bool → Bool
+only here test = pick here test true
+
+abbrev is_one : ℕ → List ℕ → Bool
+is_one s ss = ltb (index_in ss s) (length ss)
+
+abbrev pub listed : ℕ → ℕ → ℕ → Bool
+listed s m n =
+    leb (pick (eqb m 0) 1 2) n
+    && only (eqb s 5) (eqb (n % 2) 0)
+    && only (eqb s 3) (leb 3 n && leb n 34)
+    && only (is_one s (1 ∷ 2 ∷ 4 ∷ 5 ∷ 6 ∷ [])) (leb n 32)
+    && only (is_one s (7 ∷ 8 ∷ 9 ∷ [])) (eqb n (pick (eqb s 7) 13 (pick (eqb s 8) 8 12)))
+
+abbrev same : Bool → Bool → Bool
+same a b = pick a b (not b)
+
+pub nine : upto 10 (λ s. upto 3 (λ m. upto 36 (λ n. only (offered (symbology_of s).limits m) (same (drawable (symbology_of s).limits m n) (listed s m n))))) ≡ true
+unfolding symbology_of symbologies index_in
+nine = refl
+
+pub nine-past : (s n : ℕ) → drawn_counted s n ≡ true → n < 36
+nine-past s n e = omega (arith, counted-few s n e)
+
+-- ---- the order
+
+abbrev pub numbers : List Check → List ℕ
+numbers = map (λ (c : Check). (said_of c.answer).number)
+
+-- "Drawing checks 1, 2, 3, 13, 4, 5, 6, 7, 8 in that order": all but the last, which asks for a buffer
+pub row-numbers : (y : Symbology) (m count : ℕ) (field : List ℕ) → numbers (row_checks y m count field) ≡ 1 ∷ 2 ∷ 3 ∷ 13 ∷ 4 ∷ 5 ∷ 6 ∷ 7 ∷ []
+row-numbers y m count field = refl
+
+-- "Reading checks 1, 2, 9, 10, 11, 12, 7, 8": those of the strip,
+pub seen-numbers : (s m : ℕ) (t : List ℕ) → numbers (seen_checks s m t) ≡ 1 ∷ 2 ∷ 9 ∷ 10 ∷ 11 ∷ []
+seen-numbers s m t = refl
+
+-- and those of its row
+pub data-numbers : (y : Symbology) (m : ℕ) (r : List ℕ) → numbers (data_checks y m r) ≡ 12 ∷ 7 ∷ []
+data-numbers y m r = refl
 
 -- ---- the corners
 
@@ -187,3 +239,17 @@ all = (refl, (refl, (refl, (refl, (refl, (refl, (refl, (refl, (refl, (refl, (ref
 
 pub corners : map (λ (c : Outcome × Outcome). c.0) (requests ++ fields ++ rows) ≡ map (λ (c : Outcome × Outcome). c.1) (requests ++ fields ++ rows)
 corners = sides (requests ++ fields ++ rows) all
+
+-- no data and a rest: 3 comes before 13; a row that spells no data and has a wrong check: 12 comes before 7
+abbrev pub at_once : List (Outcome × Outcome)
+at_once =
+    row_of_field 5 0 0 (text "17") gets BadCount
+    ∷ data_of 2 2 (row 2 "/M9") gets NoExpansion (char_place 0)
+    ∷ []
+
+both : Same at_once
+unfolding row_of row_of_field data_of data_of_count byte_for symbology_of symbologies value_of byte_of plain codabar_coder full_coder raw_coder shifts check_of by43 right10 no_check index_in drawing ranges alphabet39 chars39 table42 alphabet_codabar table41 alphabet_digits table44
+both = (refl, (refl, tt))
+
+pub corners-at-once : map (λ (c : Outcome × Outcome). c.0) at_once ≡ map (λ (c : Outcome × Outcome). c.1) at_once
+corners-at-once = sides at_once both
