@@ -1,9 +1,9 @@
 -- `draw_row`: the strip in the room, and its first elements copied.
 -- Assumes nothing.
-use mathlib.Core.Path.{◌≡◌, refl, sym, ◌∙◌}
+use mathlib.Core.Path.{◌≡◌, refl}
 use mathlib.Core.List.{◌++◌}
 use native.Mathlib.Omega.{arith}
-use lib.ListN.{length, take, drop}
+use lib.ListN.{length, take, drop, length-take}
 use lib.Seq.{length-take-le, take-length}
 use borrow.Author.Rules.{rules}
 use Rattle.symbologies.specs.Sizes.{places}
@@ -37,8 +37,9 @@ slice_bounds-copy_from_slice-end-3 c =
     let a = c.args in
     let all : length a.row.codes ≡ places = search rules in
     let e = c.elements_of-count in
-    sym (length-take-le e.result c.build.new.out
-    (omega (arith, room-long a.symbology a.row a.out.now all c.requires e.result e.ensures _ _ refl c.build.ensures, is-few a.symbology a.row a.out.now all c.requires e.result e.ensures)))
+    let long = room-long a.symbology a.row a.out.now all c.requires e.result e.ensures _ _ refl c.build.ensures in
+    let few = is-few a.symbology a.row a.out.now all c.requires e.result e.ensures in
+    omega (arith, long, few, length-take e.result c.build.new.out)
 
 pub copy_from_slice-requires : goal.copy_from_slice-requires
 copy_from_slice-requires c =
@@ -47,7 +48,7 @@ copy_from_slice-requires c =
     let e = c.elements_of-count in
     let long = room-long a.symbology a.row a.out.now all c.requires e.result e.ensures _ _ refl c.build.ensures in
     let few = is-few a.symbology a.row a.out.now all c.requires e.result e.ensures in
-    length-take-le e.result a.out.now c.if-out-count.false ∙ sym (length-take-le e.result c.build.new.out (omega (arith, long, few)))
+    omega (arith, long, few, length-take e.result a.out.now, length-take e.result c.build.new.out)
 
 pub returns : goal.returns
 returns c =
