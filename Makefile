@@ -11,7 +11,7 @@ run: examples/intake.job
 examples/intake.job: examples/intake.txt tools/job
 	sh tools/job examples/intake.txt > $@
 
-# The gate: proves everything from nothing, tries every must-fail edit and runs every test.
+# The gate: proves everything, tries every must-fail edit and runs every test.
 test:
 	bash .ci/run
 
