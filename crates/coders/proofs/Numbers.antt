@@ -1,31 +1,24 @@
 -- The coders by the numbers that the code matches on: every number but 1, 2 and 3 draws digits.
 --
 --   others    the coder of every other number
---   as-for, as-shift    what is found at a place, and what begins a pair, is by the symbology of `drawn_as`, in mode 0
+--   as-drawn, as-for, as-shift    what is drawn or found at a place, and what begins a pair, is by the symbology of `drawn_as`, in mode 0
 --   drawn-first, drawn-full, drawn-third, drawn-others    what the four coders draw
---   alone-first, alone-full, alone-third, alone-others    the byte that draws a character alone
---   is-first, is-full, is-third, is-others    whether there is one
---   shift-low, shift_from    /, + and % begin a pair of full ASCII, and no other character
+--   alone-first, alone-full, alone-third, alone-others    the byte that draws a character alone; out-third, none at another place of Codabar
+--   told      whether there is one
+--   shift-low, shift-mid, shift-high    /, + and % begin a pair of full ASCII, and no other character
 --   unshifted, unpaired      in no other symbology does one, and no byte draws a pair
 --   pair-full, pair-none     the byte that draws a pair of full ASCII; none behind another character
 --
 -- Assumes nothing.
-use mathlib.Core.Path.{◌≡◌, refl, sym, ◌∙◌}
-use mathlib.Core.Bool.{Bool, true, false}
-use mathlib.Core.List.{List, [], ◌∷◌}
-use Prim.Native.Nat.{ℕ, zero, suc, ◌<◌, ◌≤◌}
-use native.Mathlib.Omega.{arith}
-use native.Mathlib.Decide.{ℕ_discrete, dec_lt}
-use lib.Dec.{eqb, ltb}
-use lib.ListN.{drop}
-use borrow.Author.Tests.{ne_eqb, lt-ltb, le-ltb, ltb-true}
-use Rattle.laws.specs.Search.{pick, index_in}
+use Rattle.std.proofs.Common.{◌≡◌, refl, sym, ap, ◌∙◌, Bool, true, false, List, [], ◌∷◌, ℕ, zero, suc, ◌<◌, ◌≤◌, arith, eqb, ltb, drop, Option, None, is_some, ne_eqb, lt-ltb, ltb-true}
+use native.Mathlib.Decide.{ℕ_discrete}
+use Rattle.std.proofs.lemmas.Map.Entries.{option_filter}
+use Rattle.laws.specs.Search.{pick, index_in, some_if, below}
 use Rattle.laws.specs.Spelling.{Place, is_end, Coder, byte_for}
 use Rattle.laws.proofs.Finite.{each_at, from_at}
 use Rattle.tables.specs.Alphabet.{value_of, byte_of}
 use Rattle.tables.specs.Code39.{chars39, alphabet39}
 use Rattle.tables.specs.Codabar.{table41, alphabet_codabar}
-use Rattle.tables.specs.FullAscii.{drawing, ranges}
 use Rattle.tables.specs.TwoOfFive.{table44, alphabet_digits}
 use Rattle.symbologies.specs.Limits.{unknown}
 use Rattle.symbologies.specs.Coders.{single, placed, plain, codabar_coder, shifts, full_coder, raw_coder, full}
@@ -33,8 +26,7 @@ use Rattle.symbologies.specs.Checks.{no_check}
 use Rattle.symbologies.specs.Parts.{each}
 use Rattle.symbologies.specs.Symbologies.{Symbology, digits, symbologies, symbology_of}
 use Rattle.symbologies.proofs.Coders.{byte_small, placed-in, back, for-same, full-none, full-places, alone39, alone-codabar, alone-digits, pair39, pair-codabar, pair-digits}
-use Rattle.coders.specs.Pieces.{drawn_as, edge}
-use Rattle.coders.proofs.Items.{owns, lost}
+use Rattle.coders.specs.Pieces.{listed, drawn_as, edge}
 
 -- ---- the coders
 
@@ -83,15 +75,18 @@ two-shift m c true true e = rw e
 two-shift m c true false e = rw e
 two-shift m c false end e = rw e
 
-as-drawn : (s m : ℕ) (p : Place) (b : ℕ) → ((symbology_of (drawn_as s m p.last)).coder 0).drawn p b ≡ ((symbology_of s).coder m).drawn p b
-as-drawn s m p b = go (ℕ_discrete s 2)
+drawn-same : (s m : ℕ) (p : Place) (b : ℕ) → ((symbology_of (drawn_as s m p.last)).coder 0).drawn p b ≡ ((symbology_of s).coder m).drawn p b
+drawn-same s m p b = go (ℕ_discrete s 2)
   where
     go : Dec (s ≡ 2) → ((symbology_of (drawn_as s m p.last)).coder 0).drawn p b ≡ ((symbology_of s).coder m).drawn p b
     go (yes e) = rw e (sym (two-drawn m p b (eqb m 1) p.last refl refl))
     go (no e) = rw (ne_eqb s 2 e, unmoded s m e)
 
-pub as-for : (s m t : ℕ) (p : Place) (item : List ℕ) → t ≡ drawn_as s m p.last → byte_for ((symbology_of t).coder 0) p item ≡ byte_for ((symbology_of s).coder m) p item
-as-for s m t p item e = rw e (for-same ((symbology_of (drawn_as s m p.last)).coder 0) ((symbology_of s).coder m) p p item (as-drawn s m p))
+pub as-drawn : (s m t : ℕ) (p : Place) (b : ℕ) → t ≡ drawn_as s m p.last → ((symbology_of t).coder 0).drawn p b ≡ ((symbology_of s).coder m).drawn p b
+as-drawn s m t p b e = rw e (drawn-same s m p b)
+
+pub as-for : (s m t : ℕ) (p : Place) (item : List ℕ) → t ≡ drawn_as s m p.last → below 256 (byte_for ((symbology_of t).coder 0) p item) ≡ below 256 (byte_for ((symbology_of s).coder m) p item)
+as-for s m t p item e = ap (below 256) (rw e (for-same ((symbology_of (drawn_as s m p.last)).coder 0) ((symbology_of s).coder m) p p item (drawn-same s m p)))
 
 as-shift-for : (s m : ℕ) (end : Bool) (c : ℕ) → ((symbology_of (drawn_as s m end)).coder 0).shift end c ≡ ((symbology_of s).coder m).shift end c
 as-shift-for s m end c = go (ℕ_discrete s 2)
@@ -105,71 +100,67 @@ as-shift s m t end c e = rw e (as-shift-for s m end c)
 
 -- ---- one character
 
-module _ (s m : ℕ) (p : Place) where
-  pub drawn-first : (v b : ℕ) → s ≡ 1 → v ≡ value_of alphabet39 b → single (ltb v 43) v ≡ ((symbology_of s).coder m).drawn p b
+listed-some : (b : Bool) (v : ℕ) → listed (some_if b v) ≡ single b v
+listed-some true v = refl
+listed-some false v = refl
+
+listed-filter : (q : ℕ → Bool) (b c : Bool) (v : ℕ) → q v ≡ c → (c ≡ true → b ≡ true) → listed (option_filter q (some_if b v)) ≡ single c v
+listed-filter q true true v e h = rw e
+listed-filter q true false v e h = rw e
+listed-filter q false true v e h = let w = h refl in cc
+listed-filter q false false v e h = refl
+
+module _ (t : ℕ) (p : Place) (b : ℕ) (o : Option ℕ) where
+  pub drawn-first : t ≡ 1 → o ≡ below 43 (value_of alphabet39 b) → listed o ≡ ((symbology_of t).coder 0).drawn p b
   unfolding plain alphabet39 chars39
-  drawn-first v b e h = rw (first-coder s m e, h)
+  drawn-first e h = rw (first-coder t 0 e, h) (listed-some _ _)
 
-  pub drawn-third : (end : Bool) (v b : ℕ) → s ≡ 3 → end ≡ is_end p → v ≡ value_of alphabet_codabar b → single (placed end v) v ≡ ((symbology_of s).coder m).drawn p b
+  pub drawn-third : (end : Bool) → t ≡ 3 → end ≡ is_end p → o ≡ option_filter (placed end) (below 20 (value_of alphabet_codabar b)) → listed o ≡ ((symbology_of t).coder 0).drawn p b
   unfolding codabar_coder
-  drawn-third end v b e h k = rw (third-coder s m e, h, k)
+  drawn-third end e h k =
+      rw (third-coder t 0 e, k, h)
+      (listed-filter (placed (is_end p)) _ _ (value_of alphabet_codabar b) refl (λ q. lt-ltb _ 20 (placed-in (is_end p) (value_of alphabet_codabar b) q)))
 
-  pub drawn-others : (v b : ℕ) → (s ≡ 1 → ⊥) → (s ≡ 2 → ⊥) → (s ≡ 3 → ⊥) → v ≡ value_of alphabet_digits b → single (ltb v 10) v ≡ ((symbology_of s).coder m).drawn p b
+  pub drawn-others : (t ≡ 1 → ⊥) → (t ≡ 2 → ⊥) → (t ≡ 3 → ⊥) → o ≡ below 10 (value_of alphabet_digits b) → listed o ≡ ((symbology_of t).coder 0).drawn p b
   unfolding plain alphabet_digits table44
-  drawn-others v b x y z h = rw (others s m x y z, h)
+  drawn-others x y z h = rw (others t 0 x y z, h) (listed-some _ _)
 
--- whether a byte is the first makes no difference
-full_at : (t first last : Bool) (b : ℕ) → (pick t raw_coder full_coder).drawn (record { first = false; last = last }) b ≡ (pick t raw_coder full_coder).drawn (record { first = first; last = last }) b
-unfolding raw_coder full_coder plain
-full_at true first last b = refl
-full_at false first last b = refl
+pub drawn-full : (t : ℕ) (p : Place) (b : ℕ) → t ≡ 2 → full_coder.drawn edge b ≡ ((symbology_of t).coder 0).drawn p b
+unfolding full_coder
+drawn-full t p b e = rw (full-coder t 0 e)
 
-pub drawn-full : (s m : ℕ) (first last : Bool) (b : ℕ) → s ≡ 2 → (full m).drawn (record { first = false; last = last }) b ≡ ((symbology_of s).coder m).drawn (record { first = first; last = last }) b
-drawn-full s m first last b e = rw (full-coder s m e) (full_at (eqb m 1) first last b)
+-- a byte where the test passes, as the definition tells it
+below-pick : (ok : Bool) (w : ℕ) → (ok ≡ true → w < 256) → some_if ok w ≡ below 256 (pick ok w 256)
+below-pick true w h = rw (lt-ltb w 256 (h refl))
+below-pick false w h = refl
 
-module _ (t : ℕ) (p : Place) where
-  pub alone-first : (v w : ℕ) → t ≡ 1 → w ≡ byte_of alphabet39 v → pick (ltb v 43) w 256 ≡ byte_for ((symbology_of t).coder 0) p (v ∷ [])
-  alone-first v w e h = rw (first-coder t 0 e, h) (sym (alone39 p v))
+module _ (t : ℕ) (p : Place) (v : ℕ) (o : Option ℕ) where
+  pub alone-first : t ≡ 1 → o ≡ some_if (ltb v 43) (byte_of alphabet39 v) → o ≡ below 256 (byte_for ((symbology_of t).coder 0) p (v ∷ []))
+  unfolding alphabet39 chars39
+  alone-first e h = rw (first-coder t 0 e, alone39 p v) (h ∙ below-pick _ _ (λ q. byte_small alphabet39 refl v (ltb-true v 43 q)))
 
-  pub alone-full : (v : ℕ) → t ≡ 2 → byte_for full_coder edge (v ∷ []) ≡ byte_for ((symbology_of t).coder 0) p (v ∷ [])
-  alone-full v e = rw (full-coder t 0 e) (full-places edge p (v ∷ []))
+  pub alone-full : t ≡ 2 → o ≡ below 256 (byte_for full_coder edge (v ∷ [])) → o ≡ below 256 (byte_for ((symbology_of t).coder 0) p (v ∷ []))
+  alone-full e h = rw (full-coder t 0 e, ← full-places edge p (v ∷ [])) h
 
-  pub alone-third : (end ok : Bool) (v w : ℕ) → t ≡ 3 → end ≡ is_end p → ok ≡ placed end v → w ≡ byte_of alphabet_codabar v → pick ok w 256 ≡ byte_for ((symbology_of t).coder 0) p (v ∷ [])
-  alone-third end ok v w e h k l = rw (third-coder t 0 e, l, k, h) (sym (alone-codabar p v))
+  pub alone-third : (end : Bool) → t ≡ 3 → end ≡ is_end p → placed end v ≡ true → o ≡ some_if (ltb v 20) (byte_of alphabet_codabar v) → o ≡ below 256 (byte_for ((symbology_of t).coder 0) p (v ∷ []))
+  unfolding alphabet_codabar table41
+  alone-third end e h k l =
+      let inside = placed-in end v k in
+      rw (third-coder t 0 e, alone-codabar p v, ← h, k)
+      (rw (lt-ltb v 20 inside) at l ∙ below-pick true _ (λ q. byte_small alphabet_codabar refl v inside))
 
-  pub alone-others : (v w : ℕ) → (t ≡ 1 → ⊥) → (t ≡ 2 → ⊥) → (t ≡ 3 → ⊥) → w ≡ byte_of alphabet_digits v → pick (ltb v 10) w 256 ≡ byte_for ((symbology_of t).coder 0) p (v ∷ [])
-  alone-others v w x y z h = rw (others t 0 x y z, h) (sym (alone-digits p v))
+  pub alone-others : (t ≡ 1 → ⊥) → (t ≡ 2 → ⊥) → (t ≡ 3 → ⊥) → o ≡ some_if (ltb v 10) (byte_of alphabet_digits v) → o ≡ below 256 (byte_for ((symbology_of t).coder 0) p (v ∷ []))
+  unfolding alphabet_digits table44
+  alone-others x y z h = rw (others t 0 x y z, alone-digits p v) (h ∙ below-pick _ _ (λ q. byte_small alphabet_digits refl v (ltb-true v 10 q)))
+
+pub out-third : (t : ℕ) (p : Place) (v : ℕ) (end : Bool) → t ≡ 3 → end ≡ is_end p → placed end v ≡ false → None ≡ below 256 (byte_for ((symbology_of t).coder 0) p (v ∷ []))
+out-third t p v end e h k = rw (third-coder t 0 e, alone-codabar p v, ← h, k)
 
 -- ---- whether a byte draws it
 
-told-by : (b : Bool) (x y : ℕ) → (b ≡ true → x < 256) → pick b x 256 ≡ y → b ≡ ltb y 256
-told-by true x y h e = rw (← e) (sym (lt-ltb x 256 (h refl)))
-told-by false x y h e = rw (← e)
-
-full-own-byte : (v : ℕ) → v < 256 → pick (ltb v 39) (byte_of alphabet39 v) 256 ≡ byte_for full_coder edge (v ∷ [])
-unfolding byte_of full_coder value_of alphabet39 chars39 index_in drawing ranges back
-full-own-byte v h = go (dec_lt v 39)
-  where
-    go : Dec (v < 39) → pick (ltb v 39) (byte_of alphabet39 v) 256 ≡ byte_for full_coder edge (v ∷ [])
-    go (yes l) = rw (lt-ltb v 39 l) (owns [] 0 39 (λ v. v) (λ v. []) (byte_of alphabet39) refl v (omega arith) l tt)
-    go (no l) = rw (le-ltb v 39 (omega arith)) (lost [] 39 217 (λ v. v) (λ v. []) refl v (omega arith) h tt)
-
-module _ (t : ℕ) (p : Place) (v : ℕ) where
-  pub is-first : t ≡ 1 → ltb v 43 ≡ ltb (byte_for ((symbology_of t).coder 0) p (v ∷ [])) 256
-  unfolding alphabet39 chars39
-  is-first e = told-by (ltb v 43) (byte_of alphabet39 v) _ (λ q. byte_small alphabet39 refl v (ltb-true v 43 q)) (alone-first t p v _ e refl)
-
-  pub is-full : v < 256 → t ≡ 2 → ltb v 39 ≡ ltb (byte_for ((symbology_of t).coder 0) p (v ∷ [])) 256
-  unfolding alphabet39 chars39
-  is-full h e = told-by (ltb v 39) (byte_of alphabet39 v) _ (λ q. byte_small alphabet39 refl v (omega (arith, ltb-true v 39 q))) (full-own-byte v h ∙ alone-full t p v e)
-
-  pub is-third : (end ok : Bool) → t ≡ 3 → end ≡ is_end p → ok ≡ placed end v → ok ≡ ltb (byte_for ((symbology_of t).coder 0) p (v ∷ [])) 256
-  unfolding alphabet_codabar table41
-  is-third end ok e h k = told-by ok (byte_of alphabet_codabar v) _ (λ q. byte_small alphabet_codabar refl v (placed-in end v (sym k ∙ q))) (alone-third t p end ok v _ e h k refl)
-
-  pub is-others : (t ≡ 1 → ⊥) → (t ≡ 2 → ⊥) → (t ≡ 3 → ⊥) → ltb v 10 ≡ ltb (byte_for ((symbology_of t).coder 0) p (v ∷ [])) 256
-  unfolding alphabet_digits table44
-  is-others x y z = told-by (ltb v 10) (byte_of alphabet_digits v) _ (λ q. byte_small alphabet_digits refl v (ltb-true v 10 q)) (alone-others t p v _ x y z refl)
+pub told : (b : Bool) (i : ℕ) → is_some (some_if b i) ≡ b
+told true i = refl
+told false i = refl
 
 -- ---- the characters that begin a pair
 
@@ -185,15 +176,15 @@ high : (end : Bool) (v : ℕ) → 43 ≤ v → full_coder.shift end v ≡ false
 unfolding full_coder shifts value_of alphabet39 chars39 index_in
 high end v h = rw (ne_eqb 40 v (omega arith), ne_eqb 41 v (omega arith), ne_eqb 42 v (omega arith))
 
-pub shift-low : (t : ℕ) (end : Bool) (v : ℕ) → t ≡ 2 → v < 40 → false ≡ ((symbology_of t).coder 0).shift end v
-shift-low t end v e h = rw (full-coder t 0 e) (sym (low end v h))
+module _ (t : ℕ) (end : Bool) (v : ℕ) (e : t ≡ 2) where
+  pub shift-low : v < 40 → false ≡ ((symbology_of t).coder 0).shift end v
+  shift-low h = rw (full-coder t 0 e) (sym (low end v h))
 
-pub shift_from : (t : ℕ) (end : Bool) (v : ℕ) → t ≡ 2 → 40 ≤ v → ltb v 43 ≡ ((symbology_of t).coder 0).shift end v
-shift_from t end v e h = rw (full-coder t 0 e) (go (dec_lt v 43))
-  where
-    go : Dec (v < 43) → ltb v 43 ≡ full_coder.shift end v
-    go (yes l) = lt-ltb v 43 l ∙ sym (mid end v h l)
-    go (no l) = le-ltb v 43 (omega arith) ∙ sym (high end v (omega arith))
+  pub shift-mid : 40 ≤ v → v < 43 → true ≡ ((symbology_of t).coder 0).shift end v
+  shift-mid h l = rw (full-coder t 0 e) (sym (mid end v h l))
+
+  pub shift-high : 43 ≤ v → false ≡ ((symbology_of t).coder 0).shift end v
+  shift-high h = rw (full-coder t 0 e) (sym (high end v h))
 
 -- what no number but 2 does
 beside : (P : Coder → Type 0) → P (plain alphabet39) → P codabar_coder → P (plain alphabet_digits) → (s : ℕ) → (s ≡ 2 → ⊥) → P ((symbology_of s).coder 0)
@@ -208,12 +199,12 @@ pub unshifted : (t : ℕ) (end : Bool) (v : ℕ) → (t ≡ 2 → ⊥) → false
 unfolding plain codabar_coder
 unshifted t end v = beside (λ (k : Coder). false ≡ k.shift end v) refl refl refl t
 
-pub unpaired : (t : ℕ) (p : Place) (c d : ℕ) → (t ≡ 2 → ⊥) → 256 ≡ byte_for ((symbology_of t).coder 0) p (c ∷ d ∷ [])
-unpaired t p c d = beside (λ (k : Coder). 256 ≡ byte_for k p (c ∷ d ∷ [])) (sym (pair39 p c d [])) (sym (pair-codabar p c d [])) (sym (pair-digits p c d [])) t
+pub unpaired : (t : ℕ) (p : Place) (c d : ℕ) → (t ≡ 2 → ⊥) → None ≡ below 256 (byte_for ((symbology_of t).coder 0) p (c ∷ d ∷ []))
+unpaired t p c d = beside (λ (k : Coder). None ≡ below 256 (byte_for k p (c ∷ d ∷ []))) (rw (pair39 p c d [])) (rw (pair-codabar p c d [])) (rw (pair-digits p c d [])) t
 
-pub pair-full : (t : ℕ) (p : Place) (c d x : ℕ) → t ≡ 2 → c ≡ x → byte_for full_coder edge (x ∷ d ∷ []) ≡ byte_for ((symbology_of t).coder 0) p (c ∷ d ∷ [])
-pair-full t p c d x e h = rw (full-coder t 0 e, h) (full-places edge p (x ∷ d ∷ []))
+pub pair-full : (t : ℕ) (p : Place) (c d x : ℕ) → t ≡ 2 → c ≡ x → below 256 (byte_for full_coder edge (x ∷ d ∷ [])) ≡ below 256 (byte_for ((symbology_of t).coder 0) p (c ∷ d ∷ []))
+pair-full t p c d x e h = rw (full-coder t 0 e, h) (ap (below 256) (full-places edge p (x ∷ d ∷ [])))
 
-pub pair-none : (t : ℕ) (p : Place) (c d : ℕ) → t ≡ 2 → (c ≡ 40 → ⊥) → (c ≡ 41 → ⊥) → (c ≡ 42 → ⊥) → 256 ≡ byte_for ((symbology_of t).coder 0) p (c ∷ d ∷ [])
+pub pair-none : (t : ℕ) (p : Place) (c d : ℕ) → t ≡ 2 → (c ≡ 40 → ⊥) → (c ≡ 41 → ⊥) → (c ≡ 42 → ⊥) → None ≡ below 256 (byte_for ((symbology_of t).coder 0) p (c ∷ d ∷ []))
 unfolding back
-pair-none t p c d e x y z = rw (full-coder t 0 e) (sym (full-none p c (d ∷ []) (rw (ne_eqb c 40 x, ne_eqb c 41 y, ne_eqb c 42 z))))
+pair-none t p c d e x y z = rw (full-coder t 0 e, full-none p c (d ∷ []) (rw (ne_eqb c 40 x, ne_eqb c 41 y, ne_eqb c 42 z)))

@@ -3,9 +3,7 @@
 --   piece_of, piece-again    a piece is known by its characters
 --
 -- Assumes nothing.
-use mathlib.Core.Path.{◌≡◌, refl, sym, ap, ◌∙◌}
-use mathlib.Core.List.{List, [], ◌∷◌}
-use Prim.Native.Nat.{ℕ}
+use Rattle.std.proofs.Common.{◌≡◌, refl, sym, ap, ◌∙◌, List, [], ◌∷◌, ℕ}
 use Rattle.laws.specs.One.{One}
 use Rattle.laws.proofs.Only.{only}
 use Rattle.coders.specs.declared.Piece.{Piece}

@@ -1,5 +1,6 @@
 // Full ASCII (source 004, 10.1.3, as document 01 words it): what a byte draws, as values of Code 39, and the way back.
 ghost use Rattle.std.specs.Prelude.{◌≡◌, [], ◌∷◌};
+ghost use Rattle.laws.specs.Search.{below};
 ghost use Rattle.laws.specs.Spelling.{byte_for};
 ghost use Rattle.symbologies.specs.Coders.{full_coder};
 ghost use Rattle.coders.specs.Pieces.{piece_list, edge};
@@ -7,11 +8,11 @@ ghost use Rattle.coders.specs.Pieces.{piece_list, edge};
 use super::Piece;
 
 // The shift characters, and the letters that the ranges begin with, as values of table 4.3.
-const SLASH: u8 = 40;
+pub const SLASH: u8 = 40;
 
-const PLUS: u8 = 41;
+pub const PLUS: u8 = 41;
 
-const PERCENT: u8 = 42;
+pub const PERCENT: u8 = 42;
 
 const A: u8 = 10;
 
@@ -52,49 +53,50 @@ pub fn drawn(byte: u8) -> Piece
     }
 }
 
-// The byte that draws a character alone, or 256.
-pub fn alone(value: u8) -> u16
-    ensures { result ≡ byte_for full_coder edge (value ∷ []) }
+// The byte that draws a character alone, if one does.
+pub fn alone(value: u8) -> Option<u8>
+    ensures { result ≡ below 256 (byte_for full_coder edge (value ∷ [])) }
 {
     if value < 39 {
-        tables::code39::byte(value) as u16
+        tables::code39::byte(value)
     } else {
-        256
+        None
     }
 }
 
-// The byte that draws a pair, by the character behind /, or 256.
-pub fn behind_slash(value: u8) -> u16
-    ensures { result ≡ byte_for full_coder edge (40 ∷ value ∷ []) }
+// The byte that draws a pair, by the character behind /, if one does.
+// Stays apart from the two below: three columns of source 004's table, with nothing in common but the form.
+pub fn behind_slash(value: u8) -> Option<u8>
+    ensures { result ≡ below 256 (byte_for full_coder edge (40 ∷ value ∷ [])) }
 {
     match value {
-        10..=21 => value as u16 - 10 + 0x21,
-        24 => 0x2F,
-        35 => 0x3A,
-        _ => 256,
+        10..=21 => Some(value - 10 + 0x21),
+        24 => Some(0x2F),
+        35 => Some(0x3A),
+        _ => None,
     }
 }
 
 // Behind +.
-pub fn behind_plus(value: u8) -> u16
-    ensures { result ≡ byte_for full_coder edge (41 ∷ value ∷ []) }
+pub fn behind_plus(value: u8) -> Option<u8>
+    ensures { result ≡ below 256 (byte_for full_coder edge (41 ∷ value ∷ [])) }
 {
     match value {
-        10..=35 => value as u16 - 10 + 0x61,
-        _ => 256,
+        10..=35 => Some(value - 10 + 0x61),
+        _ => None,
     }
 }
 
 // Behind %.
-pub fn behind_percent(value: u8) -> u16
-    ensures { result ≡ byte_for full_coder edge (42 ∷ value ∷ []) }
+pub fn behind_percent(value: u8) -> Option<u8>
+    ensures { result ≡ below 256 (byte_for full_coder edge (42 ∷ value ∷ [])) }
 {
     match value {
-        15..=19 => value as u16 - 15 + 0x3B,
-        20..=24 => value as u16 - 20 + 0x5B,
-        25..=29 => value as u16 - 25 + 0x7B,
-        31 => 0x40,
-        32 => 0x60,
-        _ => 256,
+        15..=19 => Some(value - 15 + 0x3B),
+        20..=24 => Some(value - 20 + 0x5B),
+        25..=29 => Some(value - 25 + 0x7B),
+        31 => Some(0x40),
+        32 => Some(0x60),
+        _ => None,
     }
 }

@@ -10,4 +10,4 @@
 mod items;
 mod reading;
 
-pub use reading::{Handed, data_of};
+pub use reading::data_of;

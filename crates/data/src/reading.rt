@@ -7,59 +7,46 @@ ghost use Rattle.data.specs.Held.{read_data, data_of_row, handed_of, written};
 
 use super::items;
 use symbologies::judging;
-use symbologies::judging::Verdict;
-use symbologies::sizes::PLACES;
+use symbologies::row::Row;
 use words::{Answer, Bytes, CharPlace};
 
-// How many data bytes were handed back, or the answer that turns the row away.
-#[derive(Clone, Copy)]
-pub enum Handed {
-    Data(Bytes),
-    Turned(Answer),
-}
-
 // The characters that spell the data: mode 2 added the check.
-fn spelling_count(mode: u8, n: usize) -> usize
-    requires { 0 < n }
-    ensures { result ≡ n - added mode }
+fn spelling(mode: u8, codes: &[u8]) -> &[u8]
+    requires { 0 < length codes.now }
+    ensures { result.now ≡ take (length codes.now - added mode) codes.now }
 {
-    if mode == 2 { n - 1 } else { n }
+    if mode == 2 {
+        &codes[..codes.len() - 1]
+    } else {
+        codes
+    }
 }
 
-// 12, 7, 8, and then the data in the lent buffer: of n characters.
-fn hand_over(symbology: u8, mode: u8, codes: &[u8; PLACES], n: usize, out: &mut [u8]) -> Handed
-    requires { (mode < 3) × (((added mode < n) × (n ≤ places)) × (length codes.now ≡ places)) }
-    ensures value { result ≡ handed_of (read_data (symbology_of symbology) mode (take n codes.now)) (length out.old) }
-    ensures out_after { out.new ≡ written (read_data (symbology_of symbology) mode (take n codes.now)) out.old }
+// 12, 7, 8, and then the data in the lent buffer.
+fn hand_over(symbology: u8, mode: u8, codes: &[u8], out: &mut [u8]) -> Result<Bytes, Answer>
+    requires { (mode < 3) × ((added mode < length codes.now) × (length codes.now ≤ places)) }
+    ensures value { result ≡ handed_of (read_data (symbology_of symbology) mode codes.now) (length out.old) }
+    ensures out_after { out.new ≡ written (read_data (symbology_of symbology) mode codes.now) out.old }
 {
-    let k = spelling_count(mode, n);
-    let measured = items::measure(symbology, mode, codes, k);
-    let bad = measured.bad;
-    if bad.0 < k {
-        return Handed::Turned(Answer::NoExpansion(bad));
-    }
-    if mode != 0 {
-        let sum = measured.sum;
-        if codes[n - 1] != sums::check(sum) {
-            return Handed::Turned(Answer::BadCheck(CharPlace(n - 1)));
-        }
+    let spelled = spelling(mode, codes);
+    let measured = items::measure(symbology, mode, spelled).map_err(Answer::NoExpansion)?;
+    let last = codes.len() - 1;
+    if mode != 0 && codes[last] != sums::check(measured.sum) {
+        return Err(Answer::BadCheck(CharPlace(last)));
     }
     let bytes = measured.bytes;
     if out.len() < bytes {
-        return Handed::Turned(Answer::ShortForData(Bytes(bytes)));
+        return Err(Answer::ShortForData(Bytes(bytes)));
     }
-    items::write_text(symbology, mode, codes, k, out);
-    Handed::Data(Bytes(bytes))
+    items::write_text(symbology, mode, spelled, out);
+    Ok(Bytes(bytes))
 }
 
-// The data of a row of n characters, in the lent buffer.
-pub fn data_of(symbology: u8, mode: u8, codes: &[u8; PLACES], n: usize, out: &mut [u8]) -> Handed
-    requires { length codes.now ≡ places }
-    ensures value { result ≡ handed_of (data_of_row symbology mode (record { codes = codes.entry.now; len = n })) (length out.old) }
-    ensures out_after { out.new ≡ written (data_of_row symbology mode (record { codes = codes.entry.now; len = n })) out.old }
+// The data of a row, in the lent buffer.
+pub fn data_of(symbology: u8, mode: u8, row: &Row, out: &mut [u8]) -> Result<Bytes, Answer>
+    ensures value { result ≡ handed_of (data_of_row symbology mode row.now) (length out.old) }
+    ensures out_after { out.new ≡ written (data_of_row symbology mode row.now) out.old }
 {
-    match judging::judge_count(symbology, mode, n) {
-        Verdict::Turned(answer) => Handed::Turned(answer),
-        Verdict::Given => hand_over(symbology, mode, codes, n, out),
-    }
+    judging::judge_count(symbology, mode, row.len)?;
+    hand_over(symbology, mode, &row.codes[..row.len], out)
 }

@@ -3,20 +3,15 @@
 --   by-same          a choice by how bytes begin is the same where it is so for a whole record
 --   Whole, whole_is  what a whole record at the front is; `whole-rest`, and what stands behind it; `shorter`, which is less
 --   run_step, held-step    a run, and a call, are the first record's line and the same over the rest; `held_on`, that step of a call
---   front-unknown, front_cut, front-whole    how the bytes from an index on begin, by the tests of the code
---   Going            the loop over the held bytes: `begun`, `next`, and `ended-all`, `ended-unknown`, `ended-cut`, `ended-full`
+--   full-took        where there is room for a line, a call that ends for want of room has taken a record
+--   by-none          and the choice that says why, where there is none
+--   found            the record that the code finds is a whole record at the front
+--   Going            the loop over the held bytes: `begun`, `next`, and `ended-none`, `ended-full`
+--   counted-one, counted-test    one more, as the code counts
 --
 -- Assumes nothing.
-use mathlib.Core.Path.{◌≡◌, refl, sym, ap, ◌∙◌}
-use mathlib.Core.Bool.{Bool, true, false}
-use mathlib.Core.List.{List, [], ◌∷◌, ◌++◌, append-nil, append_assoc}
-use Prim.Native.Nat.{ℕ, zero, suc, ◌+◌, ◌-◌, ◌<◌, ◌≤◌}
-use native.Mathlib.Omega.{arith}
-use native.Mathlib.Nat.{zero-add, add-zero, add_assoc}
-use lib.Dec.{leb, ltb}
-use lib.ListN.{length, get_or, take, drop, length-drop, drop_of_length-le}
-use lib.Seq.{drop-cons, drop-drop, get_or-drop}
-use borrow.Author.Tests.{leb-true, le-leb, lt-leb, lt-ltb, le-ltb}
+use Rattle.std.proofs.Common.{◌≡◌, refl, sym, ap, ◌∙◌, Bool, true, false, List, [], ◌∷◌, ◌++◌, append-nil, append_assoc, ℕ, zero, suc, ◌+◌, ◌-◌, ◌<◌, ◌≤◌, min, arith, zero-add, add-zero, add_assoc, leb, ltb, length, get_or, take, drop, length-drop, drop-drop, leb-true, le-leb, lt-ltb, le-ltb, ltb-true, ltb-false, Some}
+use Rattle.std.specs.Int.{from_bool}
 use Rattle.laws.specs.Search.{pick}
 use Rattle.lines.specs.Sizes.{longest_line}
 use Rattle.jobs.specs.declared.run.Ended.{Ended}
@@ -26,7 +21,8 @@ use Rattle.jobs.specs.Kinds.{symbology_of, field_of, known, body_of}
 use Rattle.laws.specs.Writing.{Put, front}
 use Rattle.lines.specs.Line.{is_drawn, line_of, end_line, stop_line}
 use Rattle.jobs.specs.Run.{Job, Front, nothing, unknown, cut, whole, job_of, front_of, by, counted, counted_if, line_for, drawn_for, run_by, run_from, Held, ends, behind, held_by, held_run, halted_at, run_of}
-use Rattle.jobs.proofs.Bodies.{body-none, body-some, body-field}
+use Rattle.jobs.specs.Found.{known_body, why_none}
+use Rattle.jobs.proofs.Bodies.{body-some, body-field}
 use Rattle.laws.proofs.Writing.{placed, then, at_front}
 
 -- ---- how bytes begin
@@ -37,6 +33,13 @@ by-same nothing a b c f g h = refl
 by-same unknown a b c f g h = refl
 by-same cut a b c f g h = refl
 by-same (whole x rest) a b c f g h = h x rest refl
+
+-- where there is no whole record, it is the choice that says why
+by-none : {A : Type 0} (z : Front) (why : Ended) (f : Ended → A) (g : Job → List ℕ → A) → why_none z ≡ Some why → by z (f More) (f Stopped) (f More) g ≡ f why
+by-none nothing why f g e = let q : More ≡ why = cc in ap f q
+by-none unknown why f g e = let q : Stopped ≡ why = cc in ap f q
+by-none cut why f g e = let q : More ≡ why = cc in ap f q
+by-none (whole x rest) why f g e = let z : ◌≡◌ {A = ℕ} 0 1 = cc in absurd (omega arith)
 
 -- the record at the front of bytes that begin with this kind
 pub record Whole (kind : ℕ) (body : List ℕ) (x : Job) (rest : List ℕ) : Type 0 where
@@ -120,38 +123,36 @@ held-step m r d (b ∷ bs) =
     ap (held_on m r d x)
     (held-enough (length bs) (length rest) (m - length (line_for (counted r) x)) (counted r) (drawn_for d x) rest (omega (arith, shorter (b ∷ bs) x rest e)) (omega arith)))
 
--- ---- the tests of the code
+-- where there is room for a line, a call that ends for want of room has taken a record
 
-module _ (held : List ℕ) (at : ℕ) (h : at < length held) (body : ℕ) (e : body ≡ body_of (get_or held at 0)) where
-  begins : drop at held ≡ get_or held at 0 ∷ drop (suc at) held
-  begins = drop-cons held at 0 h
+full-by : (z : Front) (room records drawn : ℕ) (rest : Job → List ℕ → Held) → longest_line ≤ room
+    → (by z (ends records drawn More) (ends records drawn Stopped) (ends records drawn More) (λ x after. held_on room records drawn x (rest x after))).ended ≡ Full
+    → 0 < (by z (ends records drawn More) (ends records drawn Stopped) (ends records drawn More) (λ x after. held_on room records drawn x (rest x after))).taken
+full-by nothing m r d rest l e = let z : ◌≡◌ {A = ℕ} 0 1 = cc in absurd (omega arith)
+full-by unknown m r d rest l e = let z : ◌≡◌ {A = ℕ} 0 1 = cc in absurd (omega arith)
+full-by cut m r d rest l e = let z : ◌≡◌ {A = ℕ} 0 1 = cc in absurd (omega arith)
+full-by (whole x after) m r d rest l e = rw (le-ltb m longest_line l) (omega arith)
 
-  pub front-unknown : body ≡ 0 → front_of (drop at held) ≡ unknown
-  front-unknown z = rw (begins, body-none (get_or held at 0) (sym e ∙ z))
+pub full-took : (room records drawn : ℕ) (held : List ℕ) → longest_line ≤ room
+    → (held_run room records drawn held).ended ≡ Full → 0 < (held_run room records drawn held).taken
+full-took m r d held l = rw (held-step m r d held) (full-by (front_of held) m r d _ l)
 
-  module _ (z : body ≡ 0 → ⊥) where
-    is-kind : known (get_or held at 0) ≡ true
-    is-kind = body-some (get_or held at 0) (λ q. z (e ∙ q))
+-- ---- the record that the code finds
 
-    pub front_cut : length held - at ≤ body → front_of (drop at held) ≡ cut
-    front_cut l =
-        rw (begins, is-kind, lt-leb (body_of (get_or held at 0)) (length (drop (suc at) held)) (rw length-drop (omega arith)))
+found-by : (kind body : ℕ) (behind field rest : List ℕ) → known kind ≡ true → body ≡ body_of kind → body ≤ length behind
+    → field ≡ take (body - 2) (drop 2 behind) → rest ≡ drop body behind
+    → front_of (kind ∷ behind) ≡ whole (record { kind = kind; mode = get_or behind 0 0; count = get_or behind 1 0; field = field }) rest
+found-by kind body behind field rest k b h f r =
+    let n : body - 2 ≡ field_of kind = omega (arith, body-field kind k) in
+    rw (k, le-leb (body_of kind) (length behind) (omega arith), f, r, n, b)
 
-    pub front-whole : (mode count : ℕ) (field : List ℕ) → body < length held - at → mode ≡ get_or held (at + 1) 0 → count ≡ get_or held (at + 2) 0
-        → field ≡ take (at + 1 + body - (at + 3)) (drop (at + 3) held)
-        → front_of (drop at held) ≡ whole (record { kind = get_or held at 0; mode = mode; count = count; field = field }) (drop (at + 1 + body) held)
-    front-whole mode count field l m n f =
-        let k : ℕ = get_or held at 0 in
-        let i : suc at + 0 ≡ at + 1 = omega arith in
-        let j : suc at + 1 ≡ at + 2 = omega arith in
-        let u : suc at + 2 ≡ at + 3 = omega arith in
-        let v : suc at + body_of k ≡ at + 1 + body = omega arith in
-        let p : get_or (drop (suc at) held) 0 0 ≡ mode = get_or-drop (suc at) held 0 0 ∙ rw (i, m) in
-        let q : get_or (drop (suc at) held) 1 0 ≡ count = get_or-drop (suc at) held 1 0 ∙ rw (j, n) in
-        let w : field_of k ≡ at + 1 + body - (at + 3) = omega (arith, body-field k is-kind) in
-        let x : take (field_of k) (drop 2 (drop (suc at) held)) ≡ field = rw (drop-drop 2 (suc at) held, u, w, f) in
-        let y : drop (body_of k) (drop (suc at) held) ≡ drop (at + 1 + body) held = rw (drop-drop (body_of k) (suc at) held, v) in
-        rw (begins, is-kind, le-leb (body_of k) (length (drop (suc at) held)) (rw length-drop (omega arith)), p, q, x, y)
+pub found : (held behind field rest : List ℕ) (body : ℕ) → 0 < length held → behind ≡ drop 1 held → known_body (get_or held 0 0) ≡ Some body → body ≤ length behind
+    → field ≡ take (body - 2) (drop 2 behind) → rest ≡ drop body behind
+    → front_of held ≡ whole (record { kind = get_or held 0 0; mode = get_or behind 0 0; count = get_or behind 1 0; field = field }) rest
+found [] behind field rest body l e k h f r = absurd (omega arith)
+found (kind ∷ after) behind field rest body l e k h f r =
+    let w = body-some kind body k in
+    rw e (found-by kind body after field rest w.0 w.1 (rw e at h) (rw e at f) (rw e at r))
 
 -- ---- the loop: what is taken and written, and the same run over what is left
 
@@ -196,27 +197,27 @@ module _ {held : List ℕ} {records drawn : ℕ} {out₀ out : List ℕ} {taken 
       ≡ held_run (length out₀ - written) number good (drop taken held)
   rest = sym (held-step (length out₀ - written) number good (drop taken held))
 
-  pub ended-all : length held ≤ taken → Ends More
-  ended-all h = ended More (sym rest ∙ rw (drop_of_length-le held {i = taken} h))
-
-  pub ended-unknown : front_of (drop taken held) ≡ unknown → Ends Stopped
-  ended-unknown e = ended Stopped (sym rest ∙ rw e)
-
-  pub ended-cut : front_of (drop taken held) ≡ cut → Ends More
-  ended-cut e = ended More (sym rest ∙ rw e)
+  pub ended-none : (why : Ended) → why_none (front_of (drop taken held)) ≡ Some why → Ends why
+  ended-none why e = ended why (sym rest ∙ by-none (front_of (drop taken held)) why (ends number good) _ e)
 
   pub ended-full : (x : Job) (after : List ℕ) → front_of (drop taken held) ≡ whole x after → length out - written < longest_line → Ends Full
   ended-full x after e h = ended Full (sym rest ∙ rw (e, lt-ltb (length out₀ - written) longest_line (omega (arith, g.put.long))))
 
-  pub next : (x : Job) (out₁ : List ℕ) (taken₁ written₁ number₁ good₁ : ℕ) → front_of (drop taken held) ≡ whole x (drop taken₁ held) → longest_line ≤ length out - written
-      → taken₁ ≡ taken + suc (body_of x.kind) → taken₁ ≤ length held → number₁ ≡ counted number
+  pub next : (x : Job) (after out₁ : List ℕ) (taken₁ written₁ number₁ good₁ : ℕ) → front_of (drop taken held) ≡ whole x after → longest_line ≤ length out - written
+      → taken₁ ≡ length held - length after → number₁ ≡ counted number
       → (symbology : ℕ) → symbology ≡ symbology_of x.kind → Put out written (line_of number₁ symbology x.mode x.count x.field) out₁ written₁
       → (b : Bool) → b ≡ is_drawn symbology x.mode x.count x.field → good₁ ≡ counted_if b good
       → Going held records drawn out₀ out₁ taken₁ written₁ number₁ good₁
-  next x out₁ taken₁ written₁ number₁ good₁ e h t l n symbology s w b v c =
+  next x after out₁ taken₁ written₁ number₁ good₁ f h k n symbology s w b v c =
+      let r = whole-rest (drop taken held) x after f in
+      let m : length after ≡ length held - taken - suc (body_of x.kind)
+      = ap length r.1 ∙ length-drop (suc (body_of x.kind)) (drop taken held) ∙ ap (λ (i : ℕ). i - suc (body_of x.kind)) (length-drop taken held) in
+      let t : taken₁ ≡ taken + suc (body_of x.kind) = omega (arith, r.0, length-drop taken held, g.within) in
+      let a : after ≡ drop taken₁ held = r.1 ∙ drop-drop (suc (body_of x.kind)) taken held ∙ rw t in
+      let e = rw a at f in
       let p : Put out written (line_for number₁ x) out₁ written₁ = rw s at w in
       let q : b ≡ is_drawn (symbology_of x.kind) x.mode x.count x.field = rw s at v in record {
-        within = l;
+        within = omega arith;
         text = g.text ++ line_for number₁ x;
         put = then g.put p;
         same =
@@ -225,3 +226,17 @@ module _ {held : List ℕ} {records drawn : ℕ} {out₀ out : List ℕ} {taken 
             g.same ∙ ap (behind taken g.text) (sym rest ∙ rw (e, le-ltb (length out₀ - written) longest_line (omega (arith, g.put.long)), ← n, r, ← d))
             ∙ behind-behind taken (suc (body_of x.kind)) g.text (line_for number₁ x) (held_run (length out₀ - written₁) number₁ good₁ (drop taken₁ held)) ∙ rw (← t);
       }
+
+-- ---- the numbers, which stop at the largest
+
+counted-by : (n : ℕ) (b : Bool) → ltb n 18446744073709551615 ≡ b → n ≤ 18446744073709551615 → min (n + 1) 18446744073709551615 ≡ pick b (n + 1) n
+counted-by n true e h = omega (arith, ltb-true n 18446744073709551615 e)
+counted-by n false e h = omega (arith, ltb-false n 18446744073709551615 e)
+
+pub counted-one : (n : ℕ) → n ≤ 18446744073709551615 → min (n + 1) 18446744073709551615 ≡ counted n
+unfolding counted
+counted-one n h = counted-by n (ltb n 18446744073709551615) refl h
+
+pub counted-test : (b : Bool) (n : ℕ) → n ≤ 18446744073709551615 → min (n + from_bool b) 18446744073709551615 ≡ counted_if b n
+counted-test true n h = counted-one n h
+counted-test false n h = omega arith

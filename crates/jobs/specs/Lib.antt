@@ -2,3 +2,4 @@ pub mod Kinds
 pub mod Run
 pub mod Loop
 pub mod Example
+pub mod Found

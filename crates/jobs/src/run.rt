@@ -1,7 +1,8 @@
 // The records among the bytes that are held.
-ghost use Rattle.std.specs.Prelude.{◌≡◌, ◌≤◌, length};
+ghost use Rattle.std.specs.Prelude.{◌≡◌, ◌≤◌, length, Some, MatchResult};
 ghost use Rattle.laws.specs.Writing.{front};
-ghost use Rattle.jobs.specs.Run.{counted, counted_if, held_run, halted_at, run_of};
+ghost use Rattle.jobs.specs.Run.{whole, front_of, held_run, run_of};
+ghost use Rattle.jobs.specs.Found.{job_in, why_none};
 
 use super::kinds;
 use lines::sizes::LONGEST_LINE;
@@ -18,6 +19,7 @@ pub enum Ended {
 }
 
 // What a call took of the held bytes and wrote, and the numbers of records and of drawn ones behind it.
+// Stays a struct with why it ended beside the counts: `run_of`, the promise of `run_held`, holds all five of every call.
 #[derive(Clone, Copy)]
 pub struct Run {
     pub taken: usize,
@@ -27,74 +29,75 @@ pub struct Run {
     pub ended: Ended,
 }
 
-// One more; the largest number stays, which no run reaches.
-fn counted(n: u64) -> u64
-    ensures { result ≡ counted n }
-{
-    if n < 18446744073709551615 { n + 1 } else { n }
+// A whole record, and what is held behind it.
+#[derive(Clone, Copy)]
+struct Record<'a> {
+    kind: u8,
+    mode: u8,
+    count: u8,
+    field: &'a [u8],
+    rest: &'a [u8],
 }
 
-fn counted_if(drawn: bool, n: u64) -> u64
-    ensures { result ≡ counted_if drawn n }
+// The record at the front of the held bytes, or why there is none.
+fn first_record(held: &[u8]) -> Result<Record<'_>, Ended>
+    ensures { MatchResult result (λ r. front_of held.now ≡ whole (job_in r) r.rest.now) (λ why. why_none (front_of held.now) ≡ Some why) }
 {
-    if drawn { counted(n) } else { n }
-}
-
-// What a call that takes no further record answers.
-fn halted(taken: usize, written: usize, records: u64, drawn: u64, ended: Ended) -> Run
-    ensures { result ≡ halted_at taken written records drawn ended }
-{
-    Run {
-        taken,
-        written,
-        records,
-        drawn,
-        ended,
+    let [kind, behind @ ..] = held else {
+        return Err(Ended::More);
+    };
+    let body = kinds::body_of(*kind).ok_or(Ended::Stopped)?;
+    if behind.len() < body {
+        return Err(Ended::More);
     }
+    Ok(Record {
+        kind: *kind,
+        mode: behind[0],
+        count: behind[1],
+        field: &behind[2..body],
+        rest: &behind[body..],
+    })
 }
 
 // Takes whole records from the front of the held bytes, as long as the room holds another line, and writes their lines. Records are
-// numbered on from `records`.
+// numbered on from `records`; the largest number stays, which no run reaches.
 pub fn run_held(held: &[u8], records: u64, drawn: u64, out: &mut [u8]) -> Run
     ensures value { result ≡ run_of (held_run (length out.old) records drawn held.now) }
     ensures out_after { out.new ≡ front (held_run (length out.old) records drawn held.now).text out.old }
     ensures taken_in_bounds { result.taken ≤ length held.now }
     ensures written_in_bounds { result.written ≤ length out.old }
 {
-    let mut taken = 0;
-    let mut written = 0;
-    let mut number = records;
-    let mut good = drawn;
-    while taken < held.len() {
-        let kind = held[taken];
-        let body = kinds::body_of(kind);
-        if body == 0 {
-            return halted(taken, written, number, good, Ended::Stopped);
+    let mut run = Run {
+        taken: 0,
+        written: 0,
+        records,
+        drawn,
+        ended: Ended::More,
+    };
+    // Stays a `loop`: a record is as long as its kind says, and no iterator of std steps by that.
+    loop {
+        let record = match first_record(&held[run.taken..]) {
+            Ok(record) => record,
+            Err(ended) => return Run { ended, ..run },
+        };
+        if out.len() - run.written < LONGEST_LINE {
+            return Run {
+                ended: Ended::Full,
+                ..run
+            };
         }
-        if held.len() - taken <= body {
-            return halted(taken, written, number, good, Ended::More);
-        }
-        if out.len() - written < LONGEST_LINE {
-            return halted(taken, written, number, good, Ended::Full);
-        }
-        let mode = held[taken + 1];
-        let count = held[taken + 2];
-        let from = taken + 3;
-        let next = taken + 1 + body;
-        number = counted(number);
-        let symbology = kinds::symbology_of(kind);
+        run.records = run.records.saturating_add(1);
         let line = lines::put_line(
-            number,
-            symbology,
-            mode,
-            count,
-            &held[from..next],
+            run.records,
+            kinds::symbology_of(record.kind),
+            record.mode,
+            record.count,
+            record.field,
             out,
-            written,
+            run.written,
         );
-        good = counted_if(line.drawn, good);
-        written = line.next;
-        taken = next;
+        run.drawn = run.drawn.saturating_add(u64::from(line.drawn));
+        run.written = line.next;
+        run.taken = held.len() - record.rest.len();
     }
-    halted(taken, written, number, good, Ended::More)
 }

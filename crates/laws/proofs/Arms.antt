@@ -3,16 +3,10 @@
 --
 --   Off       b is none of these numbers: the last of them first, as the checker hands it over
 --   unless    a test, or b is one of these numbers; so `stretch`: a test passes at n numbers from lo on, off these numbers
---   agree     two numbers agree there; `alike-there`, two lists
+--   agree     two numbers agree there; `alike-there`, two lists; `same-there`, two numbers or none, by the test `same`
 --
 -- Assumes nothing.
-use mathlib.Core.Path.{◌≡◌}
-use mathlib.Core.Bool.{Bool, true}
-use mathlib.Core.List.{List, [], ◌∷◌}
-use Prim.Native.Nat.{ℕ, ◌+◌, ◌-◌, ◌<◌, ◌≤◌}
-use native.Mathlib.Omega.{arith}
-use lib.Dec.{eqb}
-use borrow.Author.Tests.{ne_eqb, eqb-true}
+use Rattle.std.proofs.Common.{◌≡◌, refl, ap, Bool, true, false, List, [], ◌∷◌, ℕ, ◌+◌, ◌-◌, ◌<◌, ◌≤◌, arith, eqb, ne_eqb, eqb-true, Option, Some, None}
 use Rattle.laws.specs.Search.{pick, upto}
 use Rattle.laws.specs.Elements.{alike}
 use Rattle.laws.proofs.Finite.{upto-at}
@@ -43,3 +37,19 @@ agree ks lo n p q t b h l o = eqb-true (p b) (q b) (stretch ks lo n (λ b. eqb (
 pub alike-there : (ks : List ℕ) (lo n : ℕ) (p q : ℕ → List ℕ) → upto n (λ i. unless ks (λ b. alike (p b) (q b)) (lo + i)) ≡ true
     → (b : ℕ) → lo ≤ b → b < lo + n → Off ks b → p b ≡ q b
 alike-there ks lo n p q t b h l o = alike-true (p b) (q b) (stretch ks lo n (λ b. alike (p b) (q b)) t b h l o)
+
+abbrev pub same : Option ℕ → Option ℕ → Bool
+same None None = true
+same None (Some y) = false
+same (Some x) None = false
+same (Some x) (Some y) = eqb x y
+
+same-true : (p q : Option ℕ) → same p q ≡ true → p ≡ q
+same-true None None e = refl
+same-true None (Some y) e = cc
+same-true (Some x) None e = cc
+same-true (Some x) (Some y) e = ap Some (eqb-true x y e)
+
+pub same-there : (ks : List ℕ) (lo n : ℕ) (p q : ℕ → Option ℕ) → upto n (λ i. unless ks (λ b. same (p b) (q b)) (lo + i)) ≡ true
+    → (b : ℕ) → lo ≤ b → b < lo + n → Off ks b → p b ≡ q b
+same-there ks lo n p q t b h l o = same-true (p b) (q b) (stretch ks lo n (λ b. same (p b) (q b)) t b h l o)

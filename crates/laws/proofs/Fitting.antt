@@ -9,15 +9,8 @@
 --   free-inserted   and with another put in anywhere it is still one
 --
 -- Assumes nothing.
-use mathlib.Core.Path.{◌≡◌, refl}
-use mathlib.Core.Bool.{Bool, true, false}
-use mathlib.Core.List.{List, [], ◌∷◌}
-use Prim.Native.Nat.{ℕ, zero, suc, ◌<◌}
+use Rattle.std.proofs.Common.{◌≡◌, refl, Bool, true, false, List, [], ◌∷◌, ℕ, zero, suc, ◌<◌, arith, eqb, ltb, length, get_or, set, ltb-true, lt-ltb}
 use lib.Dec.{eqb-suc-suc, eqb-suc-zero, eqb-zero-suc}
-use native.Mathlib.Omega.{arith}
-use lib.Dec.{eqb, ltb}
-use lib.ListN.{length, get_or, set}
-use borrow.Author.Tests.{ltb-true, lt-ltb}
 use Rattle.laws.specs.Units.{Reading, found, push}
 use Rattle.laws.specs.Spelling.{Place, ends, stands, fitting, Coder, took, spell}
 use Rattle.laws.specs.Rules.{inserted}

@@ -6,15 +6,10 @@
 --   turns-apart      neighbouring weights that take turns are as far apart as the two that do
 --
 -- Values may pass the modulus, and the check may be one of the two. It rests on `balance`, as what one replaced value does. Assumes nothing.
-use mathlib.Core.Path.{◌≡◌, refl, sym, ◌∙◌}
-use mathlib.Core.Logic.{◌↔◌, ◌⊎◌, inl, inr}
-use mathlib.Core.List.{List}
-use Prim.Native.Nat.{ℕ, zero, suc, ◌+◌, ◌*◌, ◌%◌, ◌<◌}
-use native.Mathlib.Omega.{arith}
-use native.Mathlib.Nat.{zero-mod, mul-add, add-mul}
+use Rattle.std.proofs.Common.{◌≡◌, refl, sym, ◌∙◌, ◌↔◌, ◌⊎◌, inl, inr, List, ℕ, zero, suc, ◌+◌, ◌*◌, ◌%◌, ◌<◌, arith, mul-add, add-mul, length, get_or, set, length-set, get_or-set_other}
+use native.Mathlib.Nat.{zero-mod}
 use native.Mathlib.Decide.{dec_lt}
-use lib.ListN.{length, get_or, set, length-set}
-use lib.Seq.{get_or-set_other, set-get_or}
+use lib.Seq.{set-get_or}
 use Rattle.laws.specs.Weigh.{dot, turns}
 use Rattle.laws.specs.Neighbours.{swapped, difference}
 use Rattle.laws.proofs.Remainders.{balance}

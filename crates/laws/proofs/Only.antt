@@ -4,7 +4,7 @@
 --   index_in   so of `index_in`
 --
 -- Assumes nothing.
-use mathlib.Core.Path.{◌≡◌, sym, ◌∙◌}
+use Rattle.std.proofs.Common.{◌≡◌, sym, ◌∙◌}
 use Rattle.laws.specs.One.{One}
 use Rattle.laws.proofs.index_in.Reads as IndexIn
 use Rattle.laws.proofs.index_in.Kinds as IndexInKinds

@@ -9,11 +9,8 @@
 --   apart     a weight with an inverse tells remainders apart
 --
 -- Assumes nothing.
-use mathlib.Core.Path.{◌≡◌, sym, ap, ◌∙◌}
-use mathlib.Core.Logic.{◌↔◌}
-use Prim.Native.Nat.{ℕ, suc, ◌+◌, ◌-◌, ◌*◌, ◌/◌, ◌%◌, ◌<◌}
-use native.Mathlib.Omega.{arith}
-use native.Mathlib.Nat.{mod-add-mod, mod-add-div, mod-lt, mul-add, mul_comm, mul_assoc, mul_left_comm, mul-one, mul-suc, add-mul-mod_self_left, add_comm}
+use Rattle.std.proofs.Common.{◌≡◌, sym, ap, ◌∙◌, ◌↔◌, ℕ, suc, ◌+◌, ◌-◌, ◌*◌, ◌/◌, ◌%◌, ◌<◌, arith, mod-lt, mul-add, mul_comm, mul_assoc, mul_left_comm, mul-one, mul-suc, add_comm}
+use native.Mathlib.Nat.{mod-add-mod, mod-add-div, add-mul-mod_self_left}
 
 pub mul-mod : (u a m : ℕ) → u * (a % m) % m ≡ u * a % m
 mul-mod u a m = sym (add-mul-mod_self_left (u * (a % m)) m (u * (a / m))) ∙ ap (λ (x : ℕ). x % m) whole

@@ -12,18 +12,9 @@
 --   exchanged   a row that passes, two neighbours exchanged, passes exactly if the modulus divides the product of the differences
 --
 -- Assumes nothing.
-use mathlib.Core.Path.{◌≡◌, refl, sym, ap, ◌∙◌}
+use Rattle.std.proofs.Common.{◌≡◌, refl, sym, ap, ◌∙◌, ◌↔◌, ◌≢◌, Bool, true, List, [], ◌∷◌, ◌++◌, append-nil, ℕ, zero, suc, ◌+◌, ◌-◌, ◌*◌, ◌%◌, ◌<◌, ◌≤◌, arith, mod-lt, eqb, length, get_or, take, drop, set, length-append, length-drop, length-set, take-append-drop, drop_of_length-le, length-take-le, take_at, drop_at, eqb-true, eq-eqb}
 use mathlib.Core.Logic.Iff
-use mathlib.Core.Logic.{◌↔◌, ◌≢◌}
-use mathlib.Core.Bool.{Bool, true}
-use mathlib.Core.List.{List, [], ◌∷◌, ◌++◌, append-nil}
-use Prim.Native.Nat.{ℕ, zero, suc, ◌+◌, ◌-◌, ◌*◌, ◌%◌, ◌<◌, ◌≤◌}
-use native.Mathlib.Omega.{arith}
-use native.Mathlib.Nat.{mod-lt}
-use lib.Dec.{eqb}
-use lib.ListN.{length, get_or, take, drop, set, length-append, length-drop, length-set, take-append-drop, drop_of_length-le}
-use lib.Seq.{length-take-le, take-length, drop-length, take_at, drop_at, get_or_at, set_at, split_at}
-use borrow.Author.Tests.{eqb-true, eq-eqb}
+use lib.Seq.{take-length, drop-length, get_or_at, set_at, split_at}
 use Rattle.laws.specs.Weigh.{dot, Inverses}
 use Rattle.laws.specs.Rules.{inserted, without, Rule, place_of, others_of, check_of, checked_of, passes, weights_of}
 use Rattle.laws.specs.Neighbours.{swapped, difference}

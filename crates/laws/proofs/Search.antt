@@ -1,26 +1,20 @@
--- Search in a table: what it finds, and the invariant of a loop that searches.
+-- Search in a table: what it finds.
 --
 --   first-le     the answer is at most the length
 --   first-hit    below the length, the test passes there
 --   first-most   where the test passes, the answer is at or before
---   Passed       the loop has passed i entries: `none` at its start, `more` a turn, `here` at a hit, `all` at the end
---   index_below, index-hit    the first two, for a number in a list
+--   position-index    std's search for a number gives its index, below the length
+--   some-get     a list's entry at an index, if it has one
+--   below-some   where `below` gives a number, it is the number, and below the bound
+--   index-hit    below the length, the number stands there
 --   index-own    where the numbers are distinct, each is found at its own index
 --   distinct-test, distinct    by a test: each number is found at its own index
 --
 -- Assumes nothing.
-use mathlib.Core.Path.{◌≡◌, refl, sym, ap, ◌∙◌}
-use mathlib.Core.Bool.{Bool, true, false}
-use mathlib.Core.List.{List, [], ◌∷◌}
-use Prim.Native.Nat.{ℕ, zero, suc, ◌+◌, ◌<◌, ◌≤◌}
-use native.Mathlib.Omega.{arith}
-use native.Mathlib.Nat.{le_of_suc-le-suc, not-suc-le-zero, zero-add}
-use native.Mathlib.Numerals.{add-one}
-use lib.Dec.{eqb}
-use lib.ListN.{length, get_or, drop, drop_of_length-le}
-use lib.Seq.{drop-cons}
-use borrow.Author.Tests.{eqb-true, eq-eqb}
-use Rattle.laws.specs.Search.{pick, first, is, index_in, Distinct}
+use Rattle.std.proofs.Common.{◌≡◌, refl, sym, ap, ◌∙◌, Bool, true, false, List, [], ◌∷◌, ℕ, zero, suc, ◌+◌, ◌<◌, ◌≤◌, arith, le_of_suc-le-suc, not-suc-le-zero, eqb, ltb, length, get_or, eqb-true, eq-eqb, ltb-true, ltb-false, Some, None, cond, position, slice_get}
+use Rattle.std.proofs.lemmas.Option.{slice_get-get_or, slice_get_past}
+use Rattle.std.proofs.lemmas.List.Recursion.{is_position_or_len}
+use Rattle.laws.specs.Search.{pick, first, is, index_in, some_if, below, Distinct}
 use Rattle.laws.proofs.Finite.{every, every-at}
 
 module _ {A : Type 0} (d : A) (test : A → Bool) where
@@ -46,27 +40,33 @@ module _ {A : Type 0} (d : A) (test : A → Bool) where
   first-most (x ∷ xs) zero h e = rw e (omega arith)
   first-most (x ∷ xs) (suc i) h e = le_step (test x) (first test xs) i (first-most xs i (le_of_suc-le-suc h) e)
 
-  module _ (xs : List A) where
-    pub record Passed (i : ℕ) : Type 0 where
-      pub rest : first test xs ≡ i + first test (drop i xs)
+found-step : (b : Bool) (n : ℕ) → pick b 0 (suc n) ≡ cond b 0 (1 + n)
+found-step true n = refl
+found-step false n = omega arith
 
-    pub none : Passed 0
-    none = record { rest = sym (zero-add _) }
+some-if : (b : Bool) (i : ℕ) → cond b (Some i) None ≡ some_if b i
+some-if true i = refl
+some-if false i = refl
 
-    pub more : (i : ℕ) → i < length xs → test (get_or xs i d) ≡ false → Passed i → Passed (i + 1)
-    more i h e p =
-        let q = rw (drop-cons xs i d h, e) at p.rest in
-        record { rest = rw add-one (omega (arith, q)) }
-
-    pub here : (i : ℕ) → i < length xs → test (get_or xs i d) ≡ true → Passed i → i ≡ first test xs
-    here i h e p = let q = rw (drop-cons xs i d h, e) at p.rest in omega (arith, q)
-
-    pub all : (i : ℕ) → length xs ≤ i → Passed i → i ≡ first test xs
-    all i h p = let q = rw (drop_of_length-le xs h) at p.rest in omega (arith, q)
-
-pub index_below : (xs : List ℕ) (x r n : ℕ) → r ≡ index_in xs x → length xs < n → r < n
+pub position-index : (xs : List ℕ) (x : ℕ) → position (is x) xs ≡ below (length xs) (index_in xs x)
 unfolding index_in
-index_below xs x r n e h = omega (arith, first-le 0 (is x) xs)
+position-index xs x =
+    let e = is_position_or_len (first (is x)) (is x) refl (λ y ys. found-step (is x y) (first (is x) ys)) xs in
+    rw (← e) (some-if _ _)
+
+get-case : (b : Bool) (xs : List ℕ) (i : ℕ) → ltb i (length xs) ≡ b → slice_get xs i ≡ some_if b (get_or xs i 0)
+get-case true xs i t = slice_get-get_or xs i 0 (ltb-true i (length xs) t)
+get-case false xs i t = slice_get_past xs i (ltb-false i (length xs) t)
+
+pub some-get : (xs : List ℕ) (i : ℕ) → slice_get xs i ≡ some_if (ltb i (length xs)) (get_or xs i 0)
+some-get xs i = get-case (ltb i (length xs)) xs i refl
+
+some_if-some : (b : Bool) (k i n : ℕ) → ltb k n ≡ b → some_if b k ≡ Some i → (k ≡ i) × (i < n)
+some_if-some true k i n t e = let same : k ≡ i = cc in (same, rw same at (ltb-true k n t))
+some_if-some false k i n t e = (cc, absurd (cc))
+
+pub below-some : (n k i : ℕ) → below n k ≡ Some i → (k ≡ i) × (i < n)
+below-some n k i e = some_if-some (ltb k n) k i n refl e
 
 pub index-hit : (xs : List ℕ) (x : ℕ) → index_in xs x < length xs → get_or xs (index_in xs x) 0 ≡ x
 unfolding index_in

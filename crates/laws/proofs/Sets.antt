@@ -9,14 +9,8 @@
 --   find-row        in a good set each row is found at its own place
 --
 -- Assumes nothing.
-use mathlib.Core.Path.{◌≡◌, sym, ap, ◌∙◌}
-use mathlib.Core.Bool.{Bool, true, ◌&&◌, not}
-use mathlib.Core.List.{List, []}
-use Prim.Native.Nat.{ℕ, ◌<◌}
-use native.Mathlib.Omega.{arith}
-use lib.Dec.{eqb}
-use lib.ListN.{length, get_or}
-use borrow.Author.Tests.{eqb-true, eqb-false, not-true}
+use Rattle.std.proofs.Common.{◌≡◌, sym, ap, ◌∙◌, Bool, true, ◌&&◌, not, List, [], ℕ, ◌<◌, arith, eqb, length, get_or, eqb-true}
+use borrow.Author.Tests.{eqb-false, not-true}
 use Rattle.laws.specs.Elements.{alike, find, dist, sum}
 use Rattle.laws.specs.Units.{Good, Level}
 use Rattle.laws.proofs.Finite.{both_left, both_right, every, every-at}

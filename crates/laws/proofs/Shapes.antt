@@ -5,11 +5,7 @@
 --   add-many        what adds up over kinds
 --
 -- Assumes nothing.
-use mathlib.Core.Path.{◌≡◌}
-use mathlib.Core.List.{List, [], ◌∷◌, ◌++◌}
-use Prim.Native.Nat.{ℕ, zero, suc, ◌+◌, ◌*◌}
-use native.Mathlib.Omega.{arith}
-use native.Mathlib.Nat.{suc-mul}
+use Rattle.std.proofs.Common.{◌≡◌, List, [], ◌∷◌, ◌++◌, ℕ, zero, suc, ◌+◌, ◌*◌, arith, suc-mul}
 use Rattle.laws.specs.Units.{Kind, fixed, free, All}
 use Rattle.laws.specs.Shapes.{many}
 

@@ -8,16 +8,7 @@
 --   changed           so a strip with one changed element is never read (for the reader: demand 3 needs `strip-far` alone)
 --
 -- Assumes nothing.
-use mathlib.Core.Path.{◌≡◌, refl, sym, ap, ◌∙◌}
-use mathlib.Core.Logic.{◌≢◌}
-use mathlib.Core.Bool.{Bool, true, false}
-use mathlib.Core.List.{List, [], ◌∷◌, ◌++◌}
-use Prim.Native.Nat.{ℕ, ◌+◌, ◌<◌}
-use native.Mathlib.Omega.{arith}
-use lib.Dec.{ltb}
-use lib.ListN.{length, get_or, take, drop, set, length-append, take-append-drop, length-drop, length-set}
-use lib.Seq.{take_at, drop_at}
-use borrow.Author.Tests.{ltb-true, lt-ltb}
+use Rattle.std.proofs.Common.{◌≡◌, refl, sym, ap, ◌∙◌, ◌≢◌, Bool, true, false, List, [], ◌∷◌, ◌++◌, ℕ, ◌+◌, ◌<◌, arith, ltb, length, get_or, take, drop, set, length-append, take-append-drop, length-drop, length-set, take_at, drop_at, ltb-true, lt-ltb}
 use Rattle.laws.specs.Elements.{find, dist}
 use Rattle.laws.specs.Units.{Kind, fixed, free, rows, width, widths, strip, Fits, Reading, found, stopped, push, keep, next, read_at, read, All}
 use Rattle.laws.proofs.Elements.{find-hit, find-own, dist-self, dist-set, dist-append}

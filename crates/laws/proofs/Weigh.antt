@@ -11,13 +11,9 @@
 --   turns-turned  weights that take turns, counted from the other end, with weights behind them that go on taking turns
 --
 -- A row passes where its weighted sum is 0 by the modulus. All of it rests on `balance`. Assumes nothing.
-use mathlib.Core.Path.{◌≡◌, refl, sym, ap, ◌∙◌}
-use mathlib.Core.Logic.{◌≢◌, ◌↔◌}
-use mathlib.Core.List.{List, [], ◌∷◌, ◌++◌, reverse, reverse_aux}
-use Prim.Native.Nat.{ℕ, zero, suc, ◌+◌, ◌*◌, ◌%◌, ◌<◌}
-use native.Mathlib.Omega.{arith}
-use native.Mathlib.Nat.{le_of_suc-le-suc, not-suc-le-zero, add-mod-mod, mod-eq_of_lt, mul-add, mul_comm, mul_assoc, mul_left_comm, mul-one, mul-zero, zero-mod, zero-add, add-zero}
-use lib.ListN.{length, get_or, set}
+use Rattle.std.proofs.Common.{◌≡◌, refl, sym, ap, ◌∙◌, ◌≢◌, ◌↔◌, List, [], ◌∷◌, ◌++◌, reverse, ℕ, zero, suc, ◌+◌, ◌*◌, ◌%◌, ◌<◌, arith, le_of_suc-le-suc, not-suc-le-zero, mod-eq_of_lt, mul-add, mul_comm, mul_assoc, mul_left_comm, mul-one, mul-zero, zero-add, add-zero, length, get_or, set}
+use mathlib.Core.List.{reverse_aux}
+use native.Mathlib.Nat.{add-mod-mod, zero-mod}
 use Rattle.laws.specs.Weigh.{dot, turns, Inverses}
 use Rattle.laws.proofs.Remainders.{mul-mod, times, plus, balance, apart}
 

@@ -9,14 +9,8 @@
 --   Rest        what is left to write: once it stands, the buffer is the goal. `rest-start`, `rest_put`, `rest_end`, a loop that writes
 --
 -- Assumes nothing.
-use mathlib.Core.Path.{◌≡◌, refl, sym, ap, ◌∙◌}
-use mathlib.Core.List.{List, [], ◌∷◌, ◌++◌, append_assoc}
-use Prim.Native.Nat.{ℕ, ◌+◌, ◌-◌, ◌<◌, ◌≤◌}
-use native.Mathlib.Omega.{arith}
-use native.Mathlib.Nat.{add-zero, zero-add, add_assoc}
-use native.Mathlib.Numerals.{add-one}
-use lib.ListN.{length, take, drop, set, length-append, length-drop, take-append-drop}
-use lib.Seq.{take_at, drop-append-add, drop-drop, set_split, length-take-le}
+use Rattle.std.proofs.Common.{◌≡◌, refl, sym, ap, ◌∙◌, List, [], ◌∷◌, ◌++◌, append_assoc, ℕ, ◌+◌, ◌-◌, ◌<◌, ◌≤◌, arith, add-zero, zero-add, add_assoc, add-one, length, take, drop, set, length-append, length-drop, take-append-drop, take_at, drop-drop, length-take-le}
+use lib.Seq.{drop-append-add, set_split}
 use Rattle.laws.specs.Writing.{put_in, Put, front}
 
 same-long : (out text : List ℕ) (at : ℕ) → at + length text ≤ length out → length (put_in at text out) ≡ length out

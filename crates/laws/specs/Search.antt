@@ -4,9 +4,11 @@
 --   first     the first index at which a test passes, or the length
 --   is        whether a number is the one sought
 --   index_in   the first index at which a number stands, or the length
+--   some_if   a number where a test passes, else none
+--   below     a number below n, else none: numbers from n on stand for none
 --   Distinct  no number stands at two indexes
 --   upto      a test passes at every number below n
-use Rattle.std.specs.Prelude.{◌≡◌, Bool, true, false, ◌&&◌, List, [], ◌∷◌, ℕ, zero, suc, ◌<◌, eqb, length, get_or}
+use Rattle.std.specs.Prelude.{◌≡◌, Bool, true, false, ◌&&◌, Option, Some, None, List, [], ◌∷◌, ℕ, zero, suc, ◌<◌, eqb, ltb, length, get_or}
 
 abbrev pub pick : {A : Type 0} → Bool → A → A → A
 pick true a b = a
@@ -22,6 +24,13 @@ is x y = eqb y x
 
 unfoldable pub index_in : List ℕ → ℕ → ℕ
 index_in xs x = first (is x) xs
+
+abbrev pub some_if : Bool → ℕ → Option ℕ
+some_if true i = Some i
+some_if false i = None
+
+abbrev pub below : ℕ → ℕ → Option ℕ
+below n i = some_if (ltb i n) i
 
 abbrev pub Distinct : List ℕ → Type 0
 Distinct xs = (i j : ℕ) → i < length xs → j < length xs → get_or xs i 0 ≡ get_or xs j 0 → i ≡ j

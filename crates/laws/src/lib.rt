@@ -7,19 +7,12 @@
 // weighted sum tells one replaced value, and exactly one check passes.
 #![tactic(auto)]
 
-ghost use Rattle.std.specs.Prelude.{◌≡◌};
-ghost use Rattle.laws.specs.Search.{index_in};
+ghost use Rattle.std.specs.Prelude.{◌≡◌, length};
+ghost use Rattle.laws.specs.Search.{below, index_in};
 
-// The first index at which x stands in the table, or the table's length.
-pub fn index_in(table: &[u16], x: u16) -> usize
-    ensures { result ≡ index_in table.now x }
+// The first index at which x stands in the table, if it stands there.
+pub fn index_in(table: &[u16], x: u16) -> Option<usize>
+    ensures { result ≡ below (length table.now) (index_in table.now x) }
 {
-    let mut i = 0;
-    while i < table.len() {
-        if table[i] == x {
-            return i;
-        }
-        i += 1;
-    }
-    i
+    table.iter().position(|&y| y == x)
 }

@@ -3,20 +3,11 @@
 --   few            at most as many as were allowed
 --   fixed          the last k digits of a number, leading zeros among them
 --   digits-fixed   a number's digits are its last ones
---   Counting       the loop that counts: `begun`, `more`, `done`
+--   counted        there is one more than the power of ten that the number reaches
 --   zero-prints, largest-prints    the decimal digits of 0 and of the largest u64
 --
 -- Assumes nothing.
-use mathlib.Core.Path.{◌≡◌, refl, ap}
-use mathlib.Core.Bool.{Bool, true, false}
-use mathlib.Core.List.{List, [], ◌∷◌, ◌++◌}
-use Prim.Native.Nat.{ℕ, zero, suc, ◌+◌, ◌/◌, ◌%◌, ◌^◌, ◌<◌, ◌≤◌}
-use native.Mathlib.Omega.{arith}
-use native.Mathlib.Nat.{pow-suc}
-use native.Mathlib.Numerals.{add-one}
-use lib.Dec.{ltb}
-use lib.ListN.{length, length-append}
-use borrow.Author.Tests.{ltb-true, lt-ltb, le-ltb}
+use Rattle.std.proofs.Common.{◌≡◌, refl, ap, Bool, true, false, List, [], ◌∷◌, ◌++◌, ℕ, zero, suc, ◌+◌, ◌*◌, ◌/◌, ◌%◌, ◌^◌, ◌<◌, ◌≤◌, arith, pow-suc, add-one, ltb, length, length-append, ltb-true, lt-ltb, le-ltb, Option, Some, None, IfNone, IfSome, unwrap_or}
 use Rattle.laws.specs.Search.{pick}
 use Rattle.tables.specs.Printed.{text}
 use Rattle.lines.specs.Text.{digits_in, decimal}
@@ -52,30 +43,30 @@ pub digits-fixed : (n : ℕ) → decimal n ≡ fixed (length (decimal n)) n
 unfolding decimal
 digits-fixed n = fixed_in 20 n
 
--- ---- counted: the digits behind k - 1 divisions are those of what is left
+-- ---- counted: one more than the power of ten that the number reaches
 
-pub record Counting (n left k : ℕ) : Type 0 where
-  pub steps : ℕ
-  pub within : k + steps ≡ 20
-  pub small : left < 10 ^ suc steps
-  pub same : length (decimal n) + 1 ≡ k + length (digits_in (suc steps) left)
+power-positive : (k : ℕ) → 1 ≤ 10 ^ k
+power-positive zero = omega arith
+power-positive (suc k) = omega (arith, pow-suc 10 k, power-positive k)
 
-pub begun : (n : ℕ) → n < 18446744073709551616 → Counting n n 1
+reaching : (steps k n : ℕ) → k ≤ steps → 10 ^ k ≤ n → n < 10 * 10 ^ k → k + 1 ≡ length (digits_in (suc steps) n)
+reaching steps zero n s h l = rw (lt-ltb n 10 (omega arith))
+reaching zero (suc k) n s h l = absurd (omega arith)
+reaching (suc steps) (suc k) n s h l =
+    let p = power-positive k in
+    let q = pow-suc 10 k in
+    let r = reaching steps k (n / 10) (omega arith) (omega (arith, p, q)) (omega (arith, p, q)) in
+    rw (le-ltb n 10 (omega (arith, p, q)), length-append) (omega (arith, r))
+
+counted-by : (n : ℕ) (r : Option ℕ) → IfNone r (n ≡ 0) → IfSome r (λ k. 10 ^ k ≤ n) → IfSome r (λ k. n < 10 * 10 ^ k) → IfSome r (λ k. k < 20)
+    → unwrap_or r 0 + 1 ≡ length (digits_in 20 n)
+counted-by n None z h l s = rw (z)
+counted-by n (Some k) z h l s = reaching 19 k n (omega arith) h l
+
+pub counted : (n : ℕ) (r : Option ℕ) → IfNone r (n ≡ 0) → IfSome r (λ k. 10 ^ k ≤ n) → IfSome r (λ k. n < 10 * 10 ^ k) → IfSome r (λ k. k < 20)
+    → unwrap_or r 0 + 1 ≡ length (decimal n)
 unfolding decimal
-begun n h = record { steps = 19; within = refl; small = omega arith; same = omega arith }
-
-more_by : (n left k steps : ℕ) → 10 ≤ left → k + steps ≡ 20 → left < 10 ^ suc steps → length (decimal n) + 1 ≡ k + length (digits_in (suc steps) left)
-    → Counting n (left / 10) (k + 1)
-more_by n left k zero h w s e = absurd (omega arith)
-more_by n left k (suc steps) h w s e =
-    let q = rw (le-ltb left 10 h, length-append) at e in
-    record { steps = steps; within = omega arith; small = omega (arith, pow-suc 10 (suc steps)); same = omega (arith, q) }
-
-pub more : (n left k : ℕ) → 10 ≤ left → Counting n left k → Counting n (left / 10) (k + 1)
-more n left k h c = more_by n left k c.steps h c.within c.small c.same
-
-pub done : (n left k : ℕ) → left < 10 → Counting n left k → k ≡ length (decimal n)
-done n left k h c = let q = rw (lt-ltb left 10 h) at c.same in omega (arith, q)
+counted n r z h l s = counted-by n r z h l s
 
 -- ---- the least and the largest
 

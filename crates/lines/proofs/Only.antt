@@ -29,10 +29,10 @@ pub end_line : One 1 EndLineKinds.ps EndLineKinds.r EndLine.Learnt
 end_line κs a p q x y h k = only h.0 k.0
 
 pub end-line-buffer : OneBuffer 1 EndLineKinds.ps EndLineKinds.r (λ κs x. x.1.1.0.now) EndLine.Learnt
-end-line-buffer κs a p q x y h k = only h.1 k.1
+end-line-buffer κs a p q x y h k = only h.1.0 k.1.0
 
 pub stop-line : One 1 StopLineKinds.ps StopLineKinds.r StopLine.Learnt
 stop-line κs a p q x y h k = only h.0 k.0
 
 pub stop-line-buffer : OneBuffer 1 StopLineKinds.ps StopLineKinds.r (λ κs x. x.1.0.now) StopLine.Learnt
-stop-line-buffer κs a p q x y h k = only h.1 k.1
+stop-line-buffer κs a p q x y h k = only h.1.0 k.1.0

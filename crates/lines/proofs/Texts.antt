@@ -6,20 +6,12 @@
 --   line-most      no line is longer than the longest
 --   room-holds     a drawing's room is what writing its widths wants
 --   record-put     the line of a record, from the calls that write it
---   copied         a word at the buffer's front
 --   end-put, stop-put    the last lines
---   too_short, in-room   a line and the buffer that it is for
+--   in-room        a line and the buffer that it is for
 --
 -- Assumes nothing.
-use mathlib.Core.Path.{◌≡◌, refl, ap, ◌∙◌}
-use mathlib.Core.Bool.{Bool, true, false}
-use mathlib.Core.List.{List, [], ◌∷◌, ◌++◌, append_assoc}
-use Prim.Native.Nat.{ℕ, ◌+◌, ◌<◌, ◌≤◌}
-use native.Mathlib.Omega.{arith}
-use native.Mathlib.Nat.{zero-add}
-use lib.Dec.{eqb}
-use lib.ListN.{length, get_or, take, set, replicate, length-append, length-map, length-set, length-take}
-use borrow.Author.Tests.{lt-ltb, le-ltb, eq-eqb, ne_eqb, eqb-true}
+use Rattle.std.proofs.Common.{◌≡◌, refl, ap, ◌∙◌, Bool, true, false, List, [], ◌∷◌, ◌++◌, append_assoc, ℕ, ◌≤◌, arith, eqb, length, get_or, take, replicate, length-append, length-take, le-ltb, eq-eqb, ne_eqb, eqb-true}
+use lib.ListN.{length-map}
 use Rattle.laws.specs.Search.{pick}
 use Rattle.words.specs.declared.Said.{Said}
 use Rattle.words.specs.Said.{said_of}
@@ -34,7 +26,7 @@ use Rattle.lines.specs.Line.{call_of, said_for, is_drawn, shown, line_said, line
 use Rattle.lines.proofs.Digits.{few}
 use Rattle.lines.proofs.Narrow.{narrow-room}
 use Rattle.lines.proofs.Fits.{drawn-room}
-use Rattle.laws.proofs.Writing.{placed, one, then, same_text, at_front}
+use Rattle.laws.proofs.Writing.{then, same_text, at_front}
 
 -- ---- the line of a record
 
@@ -42,15 +34,13 @@ pub said-text : (a b c d e : ℕ) → decimal a ++ (32 ∷ []) ++ (decimal b ++ 
     ≡ spaced (a ∷ b ∷ c ∷ d ∷ e ∷ [])
 said-text a b c d e = simp append_assoc
 
-pub drawn-shown : {out q : List ℕ} {at n : ℕ} (said : Said) (room : List ℕ) → said.number ≡ 0 → Put out at (widths (take said.count room)) q n → n < length out
-    → Put out at (shown said room ++ (10 ∷ [])) (set q n 10) (n + 1)
-drawn-shown {out} {q} {at} {n} said room z p h = rw (eq-eqb said.number 0 z) (then p (one q n 10 (omega (arith, p.long))))
+pub drawn-shown : {out q s : List ℕ} {at n m : ℕ} (said : Said) (room : List ℕ) → said.number ≡ 0 → Put out at (widths (take said.count room)) q n
+    → Put q n (10 ∷ []) s m → Put out at (shown said room ++ (10 ∷ [])) s m
+drawn-shown said room z p b = rw (eq-eqb said.number 0 z) (then p b)
 
-pub refused-shown : (out : List ℕ) (at : ℕ) (said : Said) (room : List ℕ) → (said.number ≡ 0 → ⊥) → at + 2 ≤ length out
-    → Put out at (shown said room ++ (10 ∷ [])) (set (set out at 45) (at + 1) 10) (at + 2)
-refused-shown out at said room z h =
-    let n : at + 2 ≡ at + 1 + 1 = omega arith in
-    rw (ne_eqb said.number 0 z, n) (then (one out at 45 (omega arith)) (one (set out at 45) (at + 1) 10 (rw length-set (omega arith))))
+pub refused-shown : {out q s : List ℕ} {at n m : ℕ} (said : Said) (room : List ℕ) → (said.number ≡ 0 → ⊥) → Put out at (45 ∷ []) q n
+    → Put q n (10 ∷ []) s m → Put out at (shown said room ++ (10 ∷ [])) s m
+refused-shown said room z p b = rw (ne_eqb said.number 0 z) (then p b)
 
 line-text : (number : ℕ) (said : Said) (room : List ℕ)
     → spaced (number ∷ said.number ∷ said.place ∷ said.count ∷ said.total ∷ []) ++ (shown said room ++ (10 ∷ [])) ≡ line_said number said room
@@ -85,17 +75,14 @@ module _ (number symbology mode count : ℕ) (field : List ℕ) (answer : Answer
   pub room-holds : (said.number ≡ 0 → said.count ≤ longest) × ((i : ℕ) → get_or room i 0 ≤ 4)
   room-holds = (λ z. rw said-is (drawn-room symbology mode count field (rw said-is at z)), λ i. rw room-is (narrow-room symbology mode count field i))
 
-  pub record-put : {out p q : List ℕ} {at n m : ℕ} → Put out at (spaced (number ∷ said.number ∷ said.place ∷ said.count ∷ said.total ∷ [])) p n
-      → Put p n (shown said room ++ (10 ∷ [])) q m
-      → Put out at (line_of number symbology mode count field) q m × (eqb said.number 0 ≡ is_drawn symbology mode count field)
+  pub record-put : {out p q s : List ℕ} {at n m : ℕ} → Put out at (spaced (number ∷ said.number ∷ said.place ∷ said.count ∷ said.total ∷ [])) p n
+      → Put p n (shown said room ++ (10 ∷ [])) q m → s ≡ q
+      → Put out at (line_of number symbology mode count field) s m × (eqb said.number 0 ≡ is_drawn symbology mode count field)
   unfolding line_of
-  record-put x y =
-      (same_text (line-text number said room ∙ rw (said-is, room-is)) (then x y), ap (λ (z : Said). eqb z.number 0) said-is)
+  record-put x y e =
+      (rw e (same_text (line-text number said room ∙ rw (said-is, room-is)) (then x y)), ap (λ (z : Said). eqb z.number 0) said-is)
 
 -- ---- the last lines
-
-pub copied : (out word q : List ℕ) (n : ℕ) → n ≡ length word → n ≤ length out → q ≡ front word out → Put out 0 word q n
-copied out word q n e h w = placed out word q 0 n (omega arith) (w ∙ rw zero-add) (omega arith)
 
 pub end-put : {out p q s : List ℕ} {k n m : ℕ} (records drawn : ℕ) → Put out 0 (text "end ") p k → Put p k (decimal records ++ (32 ∷ [])) q n → Put q n (decimal drawn ++ (10 ∷ [])) s m
     → Put out 0 (end_line records drawn) s m
@@ -108,9 +95,9 @@ stop-put records a b = then a b
 
 -- ---- rooms
 
-pub too_short : (out text : List ℕ) → length out < longest_line → (0 ≡ length (roomy (length out) text)) × (out ≡ front (roomy (length out) text) out)
-too_short out text h = rw (lt-ltb (length out) longest_line h) (refl, refl)
-
-pub in-room : {out text q : List ℕ} {next : ℕ} → longest_line ≤ length out → Put out 0 text q next
-    → (next ≡ length (roomy (length out) text)) × (q ≡ front (roomy (length out) text) out)
-in-room {out} h p = rw (le-ltb (length out) longest_line h) (at_front p)
+pub in-room : {out text p q : List ℕ} {next : ℕ} → longest_line ≤ length out → Put out 0 text p next → q ≡ p
+    → (next ≡ length (roomy (length out) text)) × (q ≡ front (roomy (length out) text) out) × (next ≤ length out)
+in-room {out} {text} {p} {q} {next} h w e =
+    let front-is = at_front w in
+    let fits : next ≤ length out = omega (arith, w.behind, w.fits) in
+    rw (le-ltb (length out) longest_line h, e) (front-is.0, front-is.1, fits)

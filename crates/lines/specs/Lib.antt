@@ -1,3 +1,4 @@
 pub mod Sizes
 pub mod Text
 pub mod Line
+pub mod Wrote

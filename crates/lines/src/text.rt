@@ -1,59 +1,99 @@
-// Numbers and widths as text, straight into a buffer: each call writes behind what stands there and hands the next place on.
-ghost use Rattle.std.specs.Prelude.{◌≡◌, [], ◌∷◌, ◌++◌, ℕ, ◌+◌, ◌≤◌, length, take, get_or};
-ghost use Rattle.laws.specs.Writing.{put_in, Put};
+// A line of text in a lent buffer: numbers in decimal and widths as digits.
+ghost use Rattle.std.specs.Prelude.{◌≡◌, [], ◌∷◌, ◌++◌, ℕ, ◌+◌, ◌≤◌, ◌<◌, length, get_or};
 ghost use Rattle.lines.specs.Text.{decimal, widths};
+ghost use Rattle.lines.specs.Wrote.{Wrote};
+
+// A lent buffer, and the place behind what is written there: each call writes at the place and moves it on.
+#[derive(Drop)]
+pub struct Line<'a> {
+    pub out: &'a mut [u8],
+    pub at: usize,
+}
+
+impl Line<'_> {
+    pub fn byte(&mut self, byte: u8)
+        requires { self.old.at < length self.old.out.now }
+        ensures same_buffer { self.new.out.ghost_name ≡ self.old.out.ghost_name }
+        ensures put { Wrote self.old (byte ∷ []) self.new }
+    {
+        self.out[self.at] = byte;
+        self.at += 1;
+    }
+
+    pub fn word(&mut self, word: &[u8])
+        requires { self.old.at + length word.now ≤ length self.old.out.now }
+        ensures same_buffer { self.new.out.ghost_name ≡ self.old.out.ghost_name }
+        ensures put { Wrote self.old word.now self.new }
+    {
+        let behind = self.at + word.len();
+        self.out[self.at..behind].copy_from_slice(word);
+        self.at = behind;
+    }
+
+    // A number, and the blank or the newline behind it.
+    pub fn number(&mut self, n: u64, end: u8)
+        requires { self.old.at + 21 ≤ length self.old.out.now }
+        ensures same_buffer { self.new.out.ghost_name ≡ self.old.out.ghost_name }
+        ensures put { Wrote self.old (decimal n ++ (end ∷ [])) self.new }
+        ensures upper_bound { self.new.at ≤ self.old.at + 21 }
+    {
+        self.digits(n);
+        self.byte(end);
+    }
+
+    fn digits(&mut self, n: u64)
+        requires { self.old.at + 20 ≤ length self.old.out.now }
+        ensures same_buffer { self.new.out.ghost_name ≡ self.old.out.ghost_name }
+        ensures put { Wrote self.old (decimal n) self.new }
+        ensures upper_bound { self.new.at ≤ self.old.at + 20 }
+    {
+        let behind = self.at + count_digits(n);
+        put_digits(n, &mut self.out[self.at..behind]);
+        self.at = behind;
+    }
+
+    // The widths of a strip as digits.
+    pub fn widths(&mut self, strip: &[u8])
+        requires fits { self.old.at + length strip.now ≤ length self.old.out.now }
+        requires by_index { (i : ℕ) → get_or strip.now i 0 ≤ 4 }
+        ensures same_buffer { self.new.out.ghost_name ≡ self.old.out.ghost_name }
+        ensures put { Wrote self.old (widths strip.now) self.new }
+    {
+        let behind = self.at + strip.len();
+        put_widths(strip, &mut self.out[self.at..behind]);
+        self.at = behind;
+    }
+}
 
 // How many decimal digits a number has.
+// Stays by hand, as `put_digits` does: std's `write!` into a slice answers a `Result`, and no clause of std says that it is `Ok` where there is room.
 fn count_digits(n: u64) -> usize
     ensures value { result ≡ length (decimal n) }
     ensures upper_bound { result ≤ 20 }
 {
-    let mut left = n;
-    let mut k = 1;
-    while 10 <= left {
-        left = left / 10;
-        k += 1;
-    }
-    k
+    n.checked_ilog10().unwrap_or(0) as usize + 1
 }
 
-// The k digits of a number, from the last.
-fn put_digits(n: u64, k: usize, out: &mut [u8], at: usize)
-    requires { (k ≡ length (decimal n)) × (at + k ≤ length out.old) }
-    ensures { out.new ≡ put_in at (decimal n) out.old }
+// The digits of a number, from the last.
+fn put_digits(n: u64, digits: &mut [u8])
+    requires { length digits.old ≡ length (decimal n) }
+    ensures { digits.new ≡ decimal n }
 {
     let mut left = n;
-    let mut i = k;
-    while 0 < i {
-        i -= 1;
-        out[at + i] = 48 + (left % 10) as u8;
-        left = left / 10;
+    // Stays a `for` over indexes: a proof does not know what `iter_mut().rev()` leaves in the slice, so the loop did not prove.
+    for i in (0..digits.len()).rev() {
+        digits[i] = b'0' + (left % 10) as u8;
+        left /= 10;
     }
 }
 
-// A number, and the blank or the newline behind it.
-pub fn put_number(n: u64, end: u8, out: &mut [u8], at: usize) -> usize
-    requires { at + 21 ≤ length out.old }
-    ensures put { Put out.old at (decimal n ++ (end ∷ [])) out.new result }
-    ensures upper_bound { result ≤ at + 21 }
+fn put_widths(strip: &[u8], digits: &mut [u8])
+    requires same_length { length digits.old ≡ length strip.now }
+    requires by_index { (i : ℕ) → get_or strip.now i 0 ≤ 4 }
+    ensures { digits.new ≡ widths strip.now }
 {
-    let k = count_digits(n);
-    put_digits(n, k, out, at);
-    out[at + k] = end;
-    at + k + 1
-}
-
-// The first n widths of a strip as digits.
-pub fn put_widths(room: &[u8], n: usize, out: &mut [u8], at: usize) -> usize
-    requires n_in_bounds { (n ≤ length room.now) × (at + n ≤ length out.old) }
-    requires by_index { (i : ℕ) → get_or room.now i 0 ≤ 4 }
-    ensures put { Put out.old at (widths (take n room.now)) out.new result }
-    ensures value { result ≡ at + n }
-{
-    let mut i = 0;
-    while i < n {
-        out[at + i] = 48 + room[i];
-        i += 1;
+    // Stays a `for` with an index: a proof does not know what `iter_mut().zip(strip)` leaves in the slice, so the loop did not prove.
+    for (i, &width) in strip.iter().enumerate() {
+        digits[i] = b'0' + width;
     }
-    at + n
 }

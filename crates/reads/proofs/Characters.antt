@@ -4,24 +4,18 @@
 --   row_is       places whose first n are the characters, with zeros behind, are the row
 --   lettered     Codabar: 16 more at both ends
 --   Paired       Interleaved: from place 2 i on stand the digits, and before place i still the rows; `none`, `next`, `full`
---   Sided        EAN-13: before place i stand digits, from there on the rows, and i of the parities are in the number; `begun`, `more`, `all`;
---                `small`, before the last it is below 280
+--   Sided        EAN-13: of six places those before place i hold digits, the others the rows, and i of the parities are in the number; `begun`,
+--                `more`, `all_bits`, `all_digits`; `small`, before the last it is below 280
 --   plain-shows  in all but 3, 5 and 7 a character is its own row's number
 --
 -- Assumes nothing.
-use mathlib.Core.Path.{◌≡◌, refl, sym, ap, ◌∙◌}
-use mathlib.Core.Bool.{Bool, true, false, ◌||◌}
-use mathlib.Core.List.{List, [], ◌∷◌, map}
-use Prim.Native.Nat.{ℕ, zero, suc, ◌+◌, ◌*◌, ◌-◌, ◌/◌, ◌%◌, ◌^◌, ◌<◌, ◌≤◌}
-use native.Mathlib.Omega.{arith}
-use native.Mathlib.Nat.{mul_comm, zero-add, add-zero, add-suc, suc-add, two-pow-succ, not-suc-le-zero}
-use native.Mathlib.Numerals.{add-one}
+use borrow.Rule.Slice.PartMut.{put_mid}
+use Rattle.std.proofs.Math.ListN.{get_or-append}
+use Rattle.std.proofs.lemmas.List.{get_or-append_right}
+use Rattle.std.proofs.Common.{take, ◌++◌, length-take-le, length-drop, get_or-take, get_or-drop, ◌≡◌, refl, sym, ap, ◌∙◌, Bool, true, false, ◌||◌, List, [], ◌∷◌, map, ℕ, zero, suc, ◌+◌, ◌*◌, ◌-◌, ◌/◌, ◌%◌, ◌^◌, ◌<◌, ◌≤◌, arith, mul_comm, zero-add, add-zero, add-suc, suc-add, not-suc-le-zero, add-one, eqb, length, get_or, drop, set, length-set, get_or-set_same, get_or-set_other, pow_mono, eqb-true, eq-eqb, ne_eqb}
+use native.Mathlib.Nat.{two-pow-succ}
 use native.Mathlib.Decide.{ℕ_discrete, dec_lt}
-use lib.Dec.{eqb, eqb-suc-suc}
-use lib.ListN.{length, get_or, drop, set, length-set}
-use lib.Seq.{get_or-set_same, get_or-set_other}
-use lib.Pow.{pow_mono}
-use borrow.Author.Tests.{eqb-true, eq-eqb, ne_eqb}
+use lib.Dec.{eqb-suc-suc}
 use Rattle.laws.specs.Search.{pick}
 use Rattle.laws.specs.Spelling.{counted}
 use Rattle.laws.proofs.Finite.{each_at}
@@ -157,67 +151,76 @@ module _ (n : ℕ) (even : n ≡ 2 * (n / 2)) where
 
 -- ---- EAN-13
 
-pub record Sided (before codes : List ℕ) (bits i : ℕ) : Type 0 where
-  pub long : length codes ≡ places
-  pub least : 1 ≤ i
-  pub within : i ≤ 7
-  pub done : (j : ℕ) → j < i → get_or codes j 0 ≡ get_or before j 0 % 10
-  pub left : (j : ℕ) → i ≤ j → get_or codes j 0 ≡ get_or before j 0
-  pub low : 2 * (bits + 9) ≤ 9 * 2 ^ i
-  pub same : parities_in (shown_in 7 before) ≡ number_from bits (map (λ k. shown_in 7 before k / 10) (counted (i - 1) (7 - i)))
+-- the six places behind the first, of which i are digits already
+pub record Sided (f : Shown) (items : List ℕ) (bits i : ℕ) : Type 0 where
+  pub long : length items ≡ 6
+  pub done : (j : ℕ) → j < i → get_or items j 0 ≡ f j % 10
+  pub left : (j : ℕ) → i ≤ j → j < 6 → get_or items j 0 ≡ f j
+  pub low : bits + 9 ≤ 9 * 2 ^ i
+  pub same : parities_in f ≡ number_from bits (map (λ k. f k / 10) (counted i (6 - i)))
 
-pub begun : (codes : List ℕ) → length codes ≡ places → get_or codes 0 0 < 10 → Sided codes codes 0 1
-begun codes l h = record {
-  long = l;
-  least = omega arith;
-  within = omega arith;
-  done = λ j k. let e : j ≡ 0 = omega arith in rw e (omega arith);
-  left = λ j k. refl;
+pub begun : (codes : List ℕ) → length codes ≡ places → Sided (shown_in 7 codes) (take 6 (drop 1 codes)) 0 0
+begun codes l = record {
+  long = length-take-le 6 (drop 1 codes) (omega (arith, length-drop 1 codes));
+  done = λ j h. absurd (omega arith);
+  left = λ j h k. get_or-take 6 (drop 1 codes) j 0 k ∙ get_or-drop 1 codes j 0;
   low = omega arith;
   same = refl;
 }
 
-module _ (before codes : List ℕ) (bits i : ℕ) (p : Sided before codes bits i) where
-  pub small : i < 7 → bits < 280
-  small h = let few : i ≤ 6 = omega arith in omega (arith, p.low, pow_mono few)
+module _ (f : Shown) (items : List ℕ) (bits i : ℕ) (p : Sided f items bits i) where
+  pub small : i < 6 → bits < 280
+  small h = let few : i ≤ 5 = omega arith in omega (arith, p.low, pow_mono few)
 
-  pub more : (row : ℕ) → i < 7 → row ≡ get_or codes i 0 → get_or before i 0 < 100 → Sided before (set codes i (row % 10)) (bits * 2 + row / 10) (i + 1)
-  more row h e l = record {
-    long = length-set codes i (row % 10) ∙ p.long;
-    least = omega arith;
-    within = omega arith;
+  pub more : i < 6 → f i < 100 → Sided f (set items i (get_or items i 0 % 10)) (bits * 2 + get_or items i 0 / 10) (i + 1)
+  more h l = record {
+    long = length-set items i (get_or items i 0 % 10) ∙ p.long;
     done = λ j k. at j ∙ one j (ℕ_discrete j i) (omega arith);
-    left = λ j k. at j ∙ rw (ne_eqb j i (omega arith)) (p.left j (omega arith));
+    left = λ j k m. at j ∙ rw (ne_eqb j i (omega arith)) (p.left j (omega arith) m);
     low = rw (add-one i) (omega (arith, p.low, shows, two-pow-succ i));
-    same = p.same ∙ rw (ahead, mul_comm bits 2, shows, here, there);
+    same = p.same ∙ rw (ahead, mul_comm bits 2, shows, ← add-one i);
   }
     where
-      shows : row ≡ get_or before i 0
-      shows = e ∙ p.left i (omega arith)
+      shows : get_or items i 0 ≡ f i
+      shows = p.left i (omega arith) h
 
-      at : (j : ℕ) → get_or (set codes i (row % 10)) j 0 ≡ pick (eqb j i) (row % 10) (get_or codes j 0)
-      at j = set_at codes i (row % 10) j (omega (arith, p.long))
+      at : (j : ℕ) → get_or (set items i (get_or items i 0 % 10)) j 0 ≡ pick (eqb j i) (get_or items i 0 % 10) (get_or items j 0)
+      at j = set_at items i (get_or items i 0 % 10) j (omega (arith, p.long))
 
-      one : (j : ℕ) → Dec (j ≡ i) → j ≤ i → pick (eqb j i) (row % 10) (get_or codes j 0) ≡ get_or before j 0 % 10
+      one : (j : ℕ) → Dec (j ≡ i) → j ≤ i → pick (eqb j i) (get_or items i 0 % 10) (get_or items j 0) ≡ f j % 10
       one j (yes q) k = rw (eq-eqb j i q, q, shows)
       one j (no q) k = rw (ne_eqb j i q) (p.done j (omega arith))
 
-      ahead : 7 - i ≡ suc (7 - (i + 1))
+      ahead : 6 - i ≡ suc (6 - (i + 1))
       ahead = omega arith
 
-      here : 1 + (i - 1) ≡ i
-      here = omega (arith, p.least)
+-- all six are digits: so are all of the places, if the others were
+module _ (codes items : List ℕ) (bits : ℕ) (p : Sided (shown_in 7 codes) items bits 6) where
+  pub all_bits : bits ≡ parities_in (shown_in 7 codes)
+  all_bits = sym p.same
 
-      there : suc (i - 1) ≡ i + 1 - 1
-      there = omega (arith, p.least)
-
-  pub all : 7 ≤ i → ((j : ℕ) → 7 ≤ j → get_or before j 0 < 10)
-      → (bits ≡ parities_in (shown_in 7 before)) × ((length codes ≡ places) × ((j : ℕ) → get_or codes j 0 ≡ get_or before j 0 % 10))
-  all h right = let e : i ≡ 7 = omega (arith, p.within) in (sym (p.same ∙ rw e), (p.long, λ j. one j (dec_lt j i)))
+  pub all_digits : length codes ≡ places → get_or codes 0 0 < 10 → ((j : ℕ) → 7 ≤ j → get_or codes j 0 < 10)
+      → (j : ℕ) → get_or (put_mid 1 6 codes items) j 0 ≡ get_or codes j 0 % 10
+  all_digits l first right j = one (dec_lt j 1) (dec_lt j 7)
     where
-      one : (j : ℕ) → Dec (j < i) → get_or codes j 0 ≡ get_or before j 0 % 10
-      one j (yes k) = p.done j k
-      one j (no k) = let r : get_or before j 0 < 10 = right j (omega arith) in p.left j (omega arith) ∙ omega arith
+      rest : List ℕ
+      rest = drop 6 (drop 1 codes)
+
+      front : length (take 1 codes) ≡ 1
+      front = length-take-le 1 codes (omega arith)
+
+      one : Dec (j < 1) → Dec (j < 7) → get_or (put_mid 1 6 codes items) j 0 ≡ get_or codes j 0 % 10
+      one (yes h) d =
+          let z : j ≡ 0 = omega arith in
+          rw (get_or-append (take 1 codes) (items ++ rest) 0 j (omega (arith, front)), get_or-take 1 codes j 0 h, z) (omega arith)
+      one (no n) (yes h) =
+          let z : 1 + (j - 1) ≡ j = omega arith in
+          get_or-append_right (take 1 codes) (items ++ rest) 1 j 0 front (omega arith) ∙ get_or-append items rest 0 (j - 1) (omega (arith, p.long))
+          ∙ rw z at (p.done (j - 1) (omega arith))
+      one (no n) (no m) =
+          let z : 1 + (6 + (j - 1 - 6)) ≡ j = omega arith in
+          get_or-append_right (take 1 codes) (items ++ rest) 1 j 0 front (omega arith) ∙ get_or-append_right items rest 6 (j - 1) 0 p.long (omega arith)
+          ∙ get_or-drop 6 (drop 1 codes) (j - 1 - 6) 0 ∙ rw z at (get_or-drop 1 codes (6 + (j - 1 - 6)) 0) ∙ omega (arith, right j (omega arith))
 
 -- ---- every other
 

@@ -1,3 +1,4 @@
+pub mod Mapped
 pub mod Turns
 pub mod Units
 pub mod Rows

@@ -4,25 +4,20 @@
 --   right-digits                EAN-13's right units show digits
 --   put-at, put-before, put_small    what stands in places that were empty
 --   Stood, stood                what stands in them where no unit is left; stop-seen, 10 where some are
+--   is-first, is-none            a first digit, or none
 --   given-row, no-first, first-row   a row, and EAN-13's: 11, or its row
 --   letters-asks, pairs-asks, first-asks    what each way back asks is met
 --   all_seen, row-seen, plain-seen          what is seen by the rows, a way back's row, and one that needs none
 --   given_counted               a count that passes is one of the symbology
---   turned-seen, given-seen     1, 2, 9, or what the units show
+--   turned-seen, given-seen, refused-seen    1, 2, 9, or what the units show: the row, or 10, 11
 --
 -- Assumes nothing.
-use mathlib.Core.Path.{◌≡◌, refl, sym, ap, ◌∙◌}
-use mathlib.Core.Bool.{Bool, true, false}
-use mathlib.Core.List.{List, [], ◌∷◌, ◌++◌}
-use Prim.Native.Nat.{ℕ, zero, suc, ◌+◌, ◌*◌, ◌-◌, ◌/◌, ◌%◌, ◌<◌, ◌≤◌}
-use native.Mathlib.Omega.{arith}
-use native.Mathlib.Nat.{zero-add}
+use Rattle.std.proofs.Common.{Result, Ok, Err, Option, ok_or, ltb-false, ◌≡◌, refl, sym, ap, ◌∙◌, Bool, true, false, List, [], ◌∷◌, ◌++◌, ℕ, zero, suc, ◌+◌, ◌*◌, ◌-◌, ◌/◌, ◌%◌, ◌<◌, ◌≤◌, arith, zero-add, eqb, ltb, leb, length, get_or, take, drop, set, length-set, length-take-le, get_or-append-add, get_or-take, get_or-drop, ltb-true, lt-ltb, le-ltb, leb-true, eq-eqb, ne_eqb}
 use native.Mathlib.Decide.{dec_lt}
-use lib.Dec.{eqb, ltb, leb, eqb-suc-zero}
-use lib.ListN.{length, get_or, take, drop, set, length-map, length-set, get_or-append, get_or-eq_default}
-use lib.Seq.{length-take-le, get_or-append-add, get_or-take, get_or-drop}
-use borrow.Author.Tests.{ltb-true, lt-ltb, le-ltb, leb-true, not-false, eq-eqb, ne_eqb}
-use Rattle.laws.specs.Search.{pick}
+use lib.Dec.{eqb-suc-zero}
+use lib.ListN.{length-map, get_or-append, get_or-eq_default}
+use borrow.Author.Tests.{not-false}
+use Rattle.laws.specs.Search.{pick, some_if, below}
 use Rattle.laws.specs.Elements.{find}
 use Rattle.laws.specs.Units.{Kind, fixed, free, rows, width, frees, Reading, found, stopped, next, read_at, read}
 use Rattle.laws.specs.Spelling.{counted as numbered}
@@ -31,11 +26,9 @@ use Rattle.laws.proofs.Finite.{each_at}
 use Rattle.laws.proofs.Spelling.{counted-length, same-found, never}
 use Rattle.words.specs.declared.Answer.{Answer}
 use Rattle.words.specs.declared.Answer.TheVariants.{NoSuchUnit, NoSuchParities}
-use Rattle.words.specs.Order.{Check, first_of, turned}
+use Rattle.words.specs.Order.{Check, first_of, Outcome, gives, turned, element_place}
 use Rattle.words.proofs.Order.{None, none-on}
 use Rattle.tables.specs.Ean.{table52, patterns, odd_rows, even_rows, left_rows, right_rows, first_digit}
-use Rattle.symbologies.specs.declared.row.Filled.{Filled}
-use Rattle.symbologies.specs.declared.judging.Verdict.TheVariants.{Given, Turned}
 use Rattle.symbologies.specs.Sizes.{places}
 use Rattle.symbologies.specs.Parts.{Shown, halved, parities_in, side_at}
 use Rattle.symbologies.specs.Symbologies.{symbologies, symbology_of}
@@ -47,8 +40,8 @@ use Rattle.symbologies.proofs.Numbers.{only-seven}
 use Rattle.symbologies.proofs.Counted.{counted-few, counted-codabar, counted-even, counted-ean13}
 use Rattle.symbologies.proofs.Counting.{drawn-counted}
 use Rattle.symbologies.proofs.Held.{length-pad}
-use Rattle.reads.specs.declared.walk.Walked.{Walked}
-use Rattle.reads.specs.Walk.{Ended, lead, shown_in, row_of, row_from, shown}
+use Rattle.words.specs.declared.ElementPlace.{ElementPlace}
+use Rattle.reads.specs.Walk.{Ended, lead, shown_in, row_of, row_from, shown, SeenIn}
 use Rattle.reads.proofs.Rows.{rows_are, rows_few}
 use Rattle.reads.proofs.Characters.{row_is, set_at, plain-shows}
 
@@ -130,8 +123,8 @@ pub record Stood (s n : ℕ) (z : Reading) (after : List ℕ) : Type 0 where
   pub below : (i : ℕ) → get_or after (lead s + i) 0 < get_or (sizes (units_of s n)) i 1
   pub is : row_from s n (shown_in s after) ≡ shown s n z
 
-module _ (s n : ℕ) (t before : List ℕ) (w : Walked) (after : List ℕ) (c : (counted s n ≡ true) × (before ≡ pad places [])) where
-  stood-by : (z : Reading) → read (units_of s n) t ≡ z → Ended z (lead s) (pad places []) w after → w.left ≡ 0 → Stood s n z after
+module _ (s n : ℕ) (t before : List ℕ) (w : Result (Unit {0}) ElementPlace) (after : List ℕ) (c : (counted s n ≡ true) × (before ≡ pad places [])) where
+  stood-by : (z : Reading) → read (units_of s n) t ≡ z → Ended z (lead s) (pad places []) w after → w ≡ Ok tt → Stood s n z after
   stood-by (found cs) r e h = record {
     count = c.0;
     long = e.puts.long ∙ length-pad places [];
@@ -140,16 +133,17 @@ module _ (s n : ℕ) (t before : List ℕ) (w : Walked) (after : List ℕ) (c : 
     below = λ i. rw (put-at places e.puts i) (read-sizes (units_of s n) cs 0 t r i);
     is = ap (row_from s n) (λ k i. put-at places e.puts i k);
   }
-  stood-by (stopped at) r e h = absurd (omega (arith, e.some))
+  stood-by (stopped at) r e h = let n : ◌≡◌ {A = ℕ} 0 1 = cc (e.is, h) in absurd (omega arith)
 
-  pub stood : Ended (read (units_of s n) t) (lead s) before w after → w.left ≡ 0 → Stood s n (read (units_of s n) t) after
+  pub stood : Ended (read (units_of s n) t) (lead s) before w after → w ≡ Ok tt → Stood s n (read (units_of s n) t) after
   stood e = stood-by (read (units_of s n) t) refl (rw c.1 at e)
 
-  stop-by : (z : Reading) → Ended z (lead s) before w after → 0 < w.left → told (turned (NoSuchUnit w.at)) ≡ told (shown s n z)
-  stop-by (found cs) e l = absurd (omega (arith, e.none))
-  stop-by (stopped at) e l = ap (λ (x : ℕ). told (turned (NoSuchUnit (record { 0 = x })))) e.is
+  stop-by : (z : Reading) (at : ElementPlace) (now : List ℕ) → Ended z (lead s) before w after → w ≡ Err at → SeenIn (shown s n z) n (Err (NoSuchUnit at)) now
+  stop-by (found cs) at now e h = let n : ◌≡◌ {A = ℕ} 0 1 = cc (e.none, h) in absurd (omega arith)
+  stop-by (stopped place) at now e h = let q : at ≡ element_place place = cc (e.is, h) in cc
 
-  pub stop-seen : Ended (read (units_of s n) t) (lead s) before w after → 0 < w.left → told (turned (NoSuchUnit w.at)) ≡ told (shown s n (read (units_of s n) t))
+  pub stop-seen : (at : ElementPlace) (now : List ℕ) → Ended (read (units_of s n) t) (lead s) before w after → w ≡ Err at
+      → SeenIn (shown s n (read (units_of s n) t)) n (Err (NoSuchUnit at)) now
   stop-seen = stop-by (read (units_of s n) t)
 
 -- ---- 11, or the row
@@ -159,30 +153,51 @@ module _ (s n : ℕ) (f : Shown) where
   unfolding chars_of
   chars-long = length-map (numbered 0 n) ((symbology_of s).shows.char n f) ∙ counted-length 0 n
 
-  given-row : (r : Filled) (codes : List ℕ) → (symbology_of s).shows.unlike f ≡ false → r ≡ record { verdict = Given; len = n } → codes ≡ row_of s n f
-      → filled_as r codes ≡ told (row_from s n f)
-  given-row r codes u g e = rw (u, g, e, chars-long)
+  given-row : (codes : List ℕ) → (symbology_of s).shows.unlike f ≡ false → codes ≡ row_of s n f → SeenIn (row_from s n f) n (Ok tt) codes
+  given-row codes u e = rw u (refl, e, chars-long)
 
-module _ (n : ℕ) (rows : List ℕ) (first : ℕ) (is : first ≡ first_digit (parities_in (shown_in 7 rows))) where
-  like : (b : Bool) → ltb 9 first ≡ b → (symbology_of 7).shows.unlike (shown_in 7 rows) ≡ b
+-- a first digit, or none
+module _ (f : ℕ) {o : Option ℕ} {r : Result ℕ Answer} (is : o ≡ below 10 f) (q : r ≡ ok_or o NoSuchParities) where
+  answers : (b : Bool) → ltb f 10 ≡ b → r ≡ ok_or (some_if b f) NoSuchParities
+  answers b e = q ∙ rw (is, e)
+
+  pub is-first : {x : ℕ} → r ≡ Ok x → (f ≤ 9) × (f ≡ x)
+  is-first {x} h = go (ltb f 10) refl
+    where
+      go : (b : Bool) → ltb f 10 ≡ b → (f ≤ 9) × (f ≡ x)
+      go true e = (omega (arith, ltb-true f 10 e), cc (answers true e, h))
+      go false e = let n : ◌≡◌ {A = ℕ} 0 1 = cc (answers false e, h) in absurd (omega arith)
+
+  pub is-none : {x : Answer} → r ≡ Err x → (9 < f) × (NoSuchParities ≡ x)
+  is-none {x} h = go (ltb f 10) refl
+    where
+      go : (b : Bool) → ltb f 10 ≡ b → (9 < f) × (NoSuchParities ≡ x)
+      go true e = let n : ◌≡◌ {A = ℕ} 0 1 = cc (answers true e, h) in absurd (omega arith)
+      go false e = (omega (arith, ltb-false f 10 e), cc (answers false e, h))
+
+module _ (rows : List ℕ) (bits : ℕ) (is : bits ≡ parities_in (shown_in 7 rows)) where
+  like : (b : Bool) → ltb 9 (first_digit bits) ≡ b → (symbology_of 7).shows.unlike (shown_in 7 rows) ≡ b
   unfolding symbology_of symbologies
   like b e = rw (← is) e
 
-  pub no-first : 9 < first → told (turned NoSuchParities) ≡ told (row_from 7 n (shown_in 7 rows))
-  no-first l = rw (like true (lt-ltb 9 first l))
+  pub no-first : (now : List ℕ) → 9 < first_digit bits → SeenIn (row_from 7 13 (shown_in 7 rows)) 13 (Err NoSuchParities) now
+  no-first now l = rw (like true (lt-ltb 9 (first_digit bits) l)) refl
 
-  pub first-row : (r : Filled) (codes : List ℕ) → n ≡ 13 → first ≤ 9 → ((i : ℕ) → 13 ≤ i → get_or rows i 0 ≡ 0) → length codes ≡ places
-      → ((i : ℕ) → get_or codes i 0 ≡ get_or rows i 0 % 10) → r ≡ record { verdict = Given; len = n } → filled_as r (set codes 0 first) ≡ told (row_from 7 n (shown_in 7 rows))
+  pub first-row : (codes : List ℕ) → first_digit bits ≤ 9 → ((i : ℕ) → 13 ≤ i → get_or rows i 0 ≡ 0) → length codes ≡ places
+      → ((i : ℕ) → get_or codes i 0 ≡ get_or rows i 0 % 10) → SeenIn (row_from 7 13 (shown_in 7 rows)) 13 (Ok tt) (set codes 0 (first_digit bits))
   unfolding symbology_of symbologies
-  first-row r codes m l z long digits g =
-      given-row 7 n (shown_in 7 rows) r (set codes 0 first) (like false (le-ltb 9 first l)) g
-      (row_is 7 n (shown_in 7 rows) (set codes 0 first) (length-set codes 0 first ∙ long) (λ j h. entry j) (λ j h. at j ∙ rw (ne_eqb j 0 (omega arith)) (digits j ∙ rw (z j (omega arith)))))
+  first-row codes l z long digits =
+      given-row 7 13 (shown_in 7 rows) (set codes 0 first) (like false (le-ltb 9 first l))
+      (row_is 7 13 (shown_in 7 rows) (set codes 0 first) (length-set codes 0 first ∙ long) (λ j h. entry j) (λ j h. at j ∙ rw (ne_eqb j 0 (omega arith)) (digits j ∙ rw (z j (omega arith)))))
     where
+      first : ℕ
+      first = first_digit bits
+
       at : (j : ℕ) → get_or (set codes 0 first) j 0 ≡ pick (eqb j 0) first (get_or codes j 0)
       at j = set_at codes 0 first j (omega arith)
 
-      entry : (j : ℕ) → get_or (set codes 0 first) j 0 ≡ side_at n (shown_in 7 rows) j
-      entry zero = at zero ∙ is
+      entry : (j : ℕ) → get_or (set codes 0 first) j 0 ≡ side_at 13 (shown_in 7 rows) j
+      entry zero = at zero ∙ ap first_digit is
       entry (suc k) = let e : 1 + (suc k - 1) ≡ suc k = omega arith in at (suc k) ∙ rw (eqb-suc-zero k, e) (digits (suc k))
 
 -- ---- what each way back asks is met, and its row is what is seen
@@ -197,59 +212,76 @@ module _ {s n : ℕ} {z : Reading} {after : List ℕ} (p : Stood s n z after) wh
   zeros : (i : ℕ) → n ≤ i → get_or after i 0 ≡ 0
   zeros i h = none-behind i (omega (arith, rows_few s n p.count))
 
-  pub letters-asks : s ≡ 3 → ((length after ≡ places) × ((2 ≤ n) × ((n ≤ places) × ((i : ℕ) → get_or after i 0 < 100)))) × ((i : ℕ) → n ≤ i → get_or after i 0 ≡ 0)
-  letters-asks k = ((p.long, (omega (arith, (counted-codabar n (rw k at p.count)).0), (counted-few s n p.count, p.small))), zeros)
+  pub letters-asks : s ≡ 3 → ((2 ≤ n) × ((n ≤ places) × ((i : ℕ) → get_or after i 0 < 100))) × ((i : ℕ) → n ≤ i → get_or after i 0 ≡ 0)
+  letters-asks k = ((omega (arith, (counted-codabar n (rw k at p.count)).0), (counted-few s n p.count, p.small)), zeros)
 
-  pub pairs-asks : s ≡ 5 → ((length after ≡ places) × ((n ≤ places) × (n ≡ 2 * (n / 2)))) × ((i : ℕ) → n ≤ i + i → get_or after i 0 ≡ 0)
+  pub pairs-asks : s ≡ 5 → ((n ≤ places) × (n ≡ 2 * (n / 2))) × ((i : ℕ) → n ≤ i + i → get_or after i 0 ≡ 0)
   pairs-asks k =
       let o : lead s ≡ 0 = rw k in (
-        (p.long, (counted-few s n p.count, counted-even n (rw k at p.count))),
+        (counted-few s n p.count, counted-even n (rw k at p.count)),
         λ i h. none-behind i (omega (arith, rw (eq-eqb s 5 k) at (rows_are s n p.count))),
       )
 
-  pub first-asks : s ≡ 7 → ((n ≡ 13) × ((length after ≡ places) × ((i : ℕ) → get_or after i 0 < 100)))
-      × ((get_or after 0 0 < 10) × (((i : ℕ) → 7 ≤ i → get_or after i 0 < 10) × ((i : ℕ) → 13 ≤ i → get_or after i 0 ≡ 0)))
-  first-asks k = ((m, (p.long, p.small)), (omega (arith, p.before 0 (rw k (omega arith))), (right, λ i h. zeros i (omega (arith, m)))))
-    where
-      m : n ≡ 13
-      m = counted-ean13 n (rw k at p.count)
+  pub thirteen : s ≡ 7 → n ≡ 13
+  thirteen k = counted-ean13 n (rw k at p.count)
 
+  pub first-asks : s ≡ 7 → ((i : ℕ) → get_or after i 0 < 100)
+      × ((get_or after 0 0 < 10) × (((i : ℕ) → 7 ≤ i → get_or after i 0 < 10) × ((i : ℕ) → 13 ≤ i → get_or after i 0 ≡ 0)))
+  first-asks k = (p.small, (omega (arith, p.before 0 (rw k (omega arith))), (right, λ i h. zeros i (omega (arith, thirteen k)))))
+    where
       right : (i : ℕ) → 7 ≤ i → get_or after i 0 < 10
       right i h =
           let q : 1 + (6 + (i - 7)) ≡ i = omega arith in
-          let b : get_or after (1 + (6 + (i - 7))) 0 < get_or (sizes (units_of 7 13)) (6 + (i - 7)) 1 = rw (k, m) at (p.below (6 + (i - 7))) in
+          let b : get_or after (1 + (6 + (i - 7))) 0 < get_or (sizes (units_of 7 13)) (6 + (i - 7)) 1 = rw (k, thirteen k) at (p.below (6 + (i - 7))) in
           omega (arith, right-digits (i - 7), rw q at b)
 
-  pub all_seen : (k : ℕ) → s ≡ k → told (row_from k n (shown_in k after)) ≡ told (shown s n z)
-  all_seen k q = sym (ap (λ (x : ℕ). told (row_from x n (shown_in x after))) q) ∙ ap told p.is
+  -- an outcome by the rows is the one that is seen
+  pub all_seen : (k m : ℕ) → s ≡ k → n ≡ m → (r : Result (Unit {0}) Answer) (codes : List ℕ) → SeenIn (row_from k m (shown_in k after)) m r codes → SeenIn (shown s n z) n r codes
+  all_seen k m q h r codes e = rw (← p.is, q, h) e
 
-  pub row-seen : (k : ℕ) → s ≡ k → (k ≡ 7 → ⊥) → (r : Filled) (codes : List ℕ) → r ≡ record { verdict = Given; len = n } → codes ≡ row_of k n (shown_in k after)
-      → filled_as r codes ≡ told (shown s n z)
-  row-seen k q h r codes g e = given-row k n (shown_in k after) r codes (only-seven k h (shown_in k after)) g e ∙ all_seen k q
+  pub row-seen : (k : ℕ) → s ≡ k → (k ≡ 7 → ⊥) → (codes : List ℕ) → codes ≡ row_of k n (shown_in k after) → SeenIn (shown s n z) n (Ok tt) codes
+  row-seen k q h codes e = all_seen k n q refl (Ok tt) codes (given-row k n (shown_in k after) codes (only-seven k h (shown_in k after)) e)
 
-  pub plain-seen : (s ≡ 3 → ⊥) → (s ≡ 5 → ⊥) → (s ≡ 7 → ⊥) → (r : Filled) → r ≡ record { verdict = Given; len = n } → filled_as r after ≡ told (shown s n z)
-  plain-seen a b h r g =
-      row-seen s refl h r after g (row_is s n (shown_in s after) after p.long (λ j k. rw (plain-shows s a b h, ne_eqb s 7 h, zero-add)) zeros)
+  pub plain-seen : (s ≡ 3 → ⊥) → (s ≡ 5 → ⊥) → (s ≡ 7 → ⊥) → SeenIn (shown s n z) n (Ok tt) after
+  plain-seen a b h =
+      row-seen s refl h after (row_is s n (shown_in s after) after p.long (λ j k. rw (plain-shows s a b h, ne_eqb s 7 h, zero-add)) zeros)
 
 -- ---- 1, 2, 9, or what the units show
 
-pub given_counted : (s m n : ℕ) → judged_count s m n ≡ Given → counted s n ≡ true
+pub given_counted : (s m n : ℕ) → judged_count s m n ≡ Ok tt → counted s n ≡ true
 unfolding judged_count
 given_counted s m n e =
     let q : None (count_checks (symbology_of s) m n) = judged-none (count_checks (symbology_of s) m n) e in
     drawn-counted s m n (not-false _ q.1.0) (not-false _ q.1.1.0)
+
+-- an outcome in the places is the same in the row
+seen-told : (o : Outcome) (n : ℕ) (codes : List ℕ) → SeenIn o n (Ok tt) codes → filled_as (Ok tt) (record { codes = codes; len = n }) ≡ told o
+seen-told (gives cs) n codes e = rw (e.1, ← e.2)
+seen-told (turned a) n codes e = let n : ◌≡◌ {A = ℕ} 0 1 = cc in absurd (omega arith)
+
+turned-told : (o : Outcome) (n : ℕ) (x : Answer) (codes : List ℕ) → SeenIn o n (Err x) codes → told (turned x) ≡ told o
+turned-told (gives cs) n x codes e = let n : ◌≡◌ {A = ℕ} 0 1 = cc (e.0) in absurd (omega arith)
+turned-told (turned a) n x codes e = let q : x ≡ a = cc in rw q
 
 module _ (s m : ℕ) (t : List ℕ) (n : ℕ) (is : n ≡ count_for s (length t)) where
   seen-behind : row_seen s m t ≡ first_of turned (count_checks (symbology_of s) m n) (shown s n (read (units_of s n) t))
   unfolding row_seen
   seen-behind = rw is
 
-  pub turned-seen : (x : Answer) → judged_count s m n ≡ Turned x → told (turned x) ≡ told (row_seen s m t)
+  pub turned-seen : (x : Answer) → judged_count s m n ≡ Err x → told (turned x) ≡ told (row_seen s m t)
   unfolding judged_count
   turned-seen x e = ap told (sym (seen-behind ∙ judged-turned turned (count_checks (symbology_of s) m n) x _ e))
 
-  pub given-seen : judged_count s m n ≡ Given → told (shown s n (read (units_of s n) t)) ≡ told (row_seen s m t)
+  seen_is : judged_count s m n ≡ Ok tt → shown s n (read (units_of s n) t) ≡ row_seen s m t
   unfolding judged_count
-  given-seen e =
+  seen_is e =
       let cs : List Check = count_checks (symbology_of s) m n in
-      ap told (sym (seen-behind ∙ none-on turned cs _ (judged-none cs e)))
+      sym (seen-behind ∙ none-on turned cs _ (judged-none cs e))
+
+  pub given-seen : (codes : List ℕ) → judged_count s m n ≡ Ok tt → SeenIn (shown s n (read (units_of s n) t)) n (Ok tt) codes
+      → filled_as (Ok tt) (record { codes = codes; len = n }) ≡ told (row_seen s m t)
+  given-seen codes e h = seen-told (shown s n (read (units_of s n) t)) n codes h ∙ ap told (seen_is e)
+
+  pub refused-seen : (x : Answer) (codes : List ℕ) → judged_count s m n ≡ Ok tt → SeenIn (shown s n (read (units_of s n) t)) n (Err x) codes
+      → told (turned x) ≡ told (row_seen s m t)
+  refused-seen x codes e h = turned-told (shown s n (read (units_of s n) t)) n x codes h ∙ ap told (seen_is e)

@@ -5,12 +5,7 @@
 --   found_behind, set_more    what is found in a set of those that are looked through, and all of them, the last first
 --
 -- Assumes nothing.
-use mathlib.Core.Path.{◌≡◌, ap, ◌∙◌}
-use mathlib.Core.List.{List}
-use Prim.Native.Nat.{ℕ, zero, suc, ◌+◌, ◌*◌, ◌-◌, ◌%◌, ◌<◌}
-use native.Mathlib.Omega.{arith}
-use lib.Dec.{eqb}
-use lib.ListN.{set}
+use Rattle.std.proofs.Common.{◌≡◌, ap, ◌∙◌, List, ℕ, zero, suc, ◌+◌, ◌*◌, ◌-◌, ◌%◌, ◌<◌, arith, eqb, set}
 use Rattle.laws.specs.Search.{pick}
 use Rattle.shapes.specs.declared.parts.Unit.{Unit as Like}
 use Rattle.shapes.specs.Searched.{found_in, found_by}
@@ -19,7 +14,7 @@ use Rattle.search.specs.Sought.{sought_of, found_of}
 use Rattle.reads.specs.Walk.{Run, stop, walk_by}
 
 abbrev pub comes : List (List ℕ) → Like → List ℕ → ℕ → ℕ → List ℕ → Sought → ℕ → Run
-comes sets x l j place zs y f = pick (eqb f 0) (stop y.at.0 j zs) (walk_by sets x l (j - 1) y.next.0 (place + 1) (set zs place ((f - 1) % 256)))
+comes sets x l j place zs y f = pick (eqb f 0) (stop y.at.0 zs) (walk_by sets x l (j - 1) y.next.0 (place + 1) (set zs place ((f - 1) % 256)))
 
 less_one : (m : ℕ) → suc m - 1 ≡ m
 less_one m = omega arith
@@ -29,7 +24,7 @@ pub one_more : (sets : List (List ℕ)) (x : Like) (l : List ℕ) (j at place : 
 one_more sets x l zero at place zs y lt e = absurd (omega (arith, lt))
 one_more sets x l (suc m) at place zs y lt e =
     ap (λ (z : Sought). comes sets x l (suc m) place zs z (found_of sets z)) e
-    ∙ ap (λ (k : ℕ). pick (eqb (found_of sets (sought_of sets x l at)) 0) (stop (sought_of sets x l at).at.0 (suc m) zs) (walk_by sets x l k (sought_of sets x l at).next.0 (place + 1) (set zs place ((found_of sets (sought_of sets x l at) - 1) % 256))))
+    ∙ ap (λ (k : ℕ). pick (eqb (found_of sets (sought_of sets x l at)) 0) (stop (sought_of sets x l at).at.0 zs) (walk_by sets x l k (sought_of sets x l at).next.0 (place + 1) (set zs place ((found_of sets (sought_of sets x l at) - 1) % 256))))
     (less_one m)
 
 abbrev pub found_behind : List (List ℕ) → Sought → ℕ → ℕ → ℕ

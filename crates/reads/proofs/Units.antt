@@ -1,24 +1,17 @@
 -- What the code finds at a place of a strip is what reading the units there says: one unit behind its gap, many like units, a mark.
 --
---   mark-few, unit-seekable    what the code asks of a description that is readable
+--   mark-small, unit-seekable  what the code asks of a description that is readable
 --   mark-read       a mark, and then the rest
 --   went, unit-read a unit, and then the rest, by what is sought there
 --   Walks, walks    many units: all are passed, or the one at a place is in no row
 --   part-stops, part-goes    so a part, by its mark
 --
 -- Assumes nothing.
-use mathlib.Core.Path.{◌≡◌, refl, sym, ap, ◌∙◌}
-use mathlib.Core.Logic.{◌≢◌}
-use mathlib.Core.Bool.{Bool, true, false, ◌&&◌}
-use mathlib.Core.List.{List, [], ◌∷◌, ◌++◌, map, append_assoc}
-use Prim.Native.Nat.{ℕ, zero, suc, ◌+◌, ◌*◌, ◌-◌, ◌/◌, ◌%◌, ◌<◌, ◌≤◌}
-use native.Mathlib.Omega.{arith}
-use native.Mathlib.Nat.{not-suc-le-zero, le_of_suc-le-suc}
+use Rattle.std.proofs.Common.{Result, Ok, Err, ◌≡◌, refl, sym, ap, ◌∙◌, ◌≢◌, Bool, true, false, ◌&&◌, List, [], ◌∷◌, ◌++◌, map, append_assoc, ℕ, zero, suc, ◌+◌, ◌*◌, ◌-◌, ◌/◌, ◌%◌, ◌<◌, ◌≤◌, arith, not-suc-le-zero, le_of_suc-le-suc, eqb, ltb, leb, length, get_or, take, drop, set, length-set, length-drop, length-take, drop-drop, take_all, get_or-take, get_or-drop, eqb-true, ne_eqb, ltb-true, ltb-false, le-ltb, leb-true, leb-false}
 use native.Mathlib.Decide.{dec_lt}
-use lib.Dec.{eqb, ltb, leb}
-use lib.ListN.{length, get_or, take, drop, set, length-map, length-set, length-drop, length-take, get_or-eq_default}
-use lib.Seq.{drop-drop, drop-nil, take_all, get_or-take, get_or-drop}
-use borrow.Author.Tests.{eqb-true, eqb-false, ne_eqb, ltb-true, ltb-false, le-ltb, leb-true, leb-false}
+use lib.ListN.{length-map, get_or-eq_default}
+use lib.Seq.{drop-nil}
+use borrow.Author.Tests.{eqb-false}
 use Rattle.laws.specs.Search.{pick, upto}
 use Rattle.laws.specs.Elements.{alike, find}
 use Rattle.laws.specs.Units.{Kind, fixed, free, width, Reading, stopped, push, next, read_at}
@@ -39,9 +32,9 @@ use Rattle.shapes.proofs.Words.{row-length, pair-length}
 use Rattle.search.proofs.Found.{Bytes, mark-found, unit-found, few-rows}
 use Rattle.search.specs.declared.seek.Marked.{Marked}
 use Rattle.search.specs.declared.seek.Sought.{Sought}
-use Rattle.reads.specs.declared.walk.Walked.{Walked}
+use Rattle.words.specs.declared.ElementPlace.{ElementPlace}
 use Rattle.search.specs.Sought.{parted_at, behind, marked, mark_in as mark_at, mark_of, among_at, nowhere, pair_in, rows_in, sought_in, sought_behind, sought_of, found_of}
-use Rattle.reads.specs.Walk.{Run, stop, walk_by, Passed, part_kinds, PartRead}
+use Rattle.reads.specs.Walk.{Run, stop, walk_by, PartEnds, part_kinds, PartRead}
 
 -- ---- one row, and the parting space
 
@@ -209,7 +202,7 @@ module _ (sets : List (List ℕ)) (u : Unit) (reads : unit_reads sets u ≡ true
 
 -- ---- what the code asks
 
-pub mark-few : (m : Mark) → mark_reads m ≡ true → m.elements ≤ 9
+mark-few : (m : Mark) → mark_reads m ≡ true → m.elements ≤ 9
 mark-few m h = go (eqb m.elements 0) refl
   where
     go : (z : Bool) → eqb m.elements 0 ≡ z → m.elements ≤ 9
@@ -217,6 +210,9 @@ mark-few m h = go (eqb m.elements 0) refl
     go false e =
         let s : (leb m.elements 9 && own m.elements m.word) ≡ true = rw e at h in
         leb-true m.elements 9 (both_left (leb m.elements 9) _ s)
+
+pub mark-small : (sets : List (List ℕ)) (p : Line) → readable sets p ≡ true → p.mark.elements ≤ 9
+mark-small sets p h = mark-few p.mark (both_left (mark_reads p.mark) _ h)
 
 pub unit-seekable : (sets : List (List ℕ)) (p : Line) → readable sets p ≡ true → seekable (length sets) p.unit ≡ true
 unit-seekable sets p h = both_left (seekable (length sets) p.unit) _ (both_right (mark_reads p.mark) _ h)
@@ -317,22 +313,13 @@ module _ (t : List ℕ) (b : Bytes t) where
 
     pub record Walks (n at j : ℕ) (codes : List ℕ) (run : Run) : Type 0 where
       pub same : length run.codes ≡ length codes
-      pub all : run.walked.left ≡ 0 → Passed (many n (unit_in sets u)) t at run.walked.at.0 j n codes run.codes
-      pub some : 0 < run.walked.left → (rest : List Kind) → read_at (many n (unit_in sets u) rest) at (drop at t) ≡ stopped run.walked.at.0
+      pub is : PartEnds (many n (unit_in sets u)) t at j n codes run.codes run.walked
 
     one_more : (n at j : ℕ) (codes : List ℕ) (run : Run) (a : Bool) → j < length codes → eqb (found_of sets (sought_of sets u t at)) 0 ≡ a
         → Walks n (sought_of sets u t at).next.0 (j + 1) (set codes j ((found_of sets (sought_of sets u t at) - 1) % 256)) run
-        → Walks (suc n) at j codes (pick a (stop (sought_of sets u t at).at.0 (suc n) codes) run)
-    one_more n at j codes run true h e w = record {
-      same = refl;
-      all = λ z. absurd (omega arith);
-      some = λ z rest. unit-read (many n (unit_in sets u) rest) at ∙ rw e refl;
-    }
-    one_more n at j codes run false h e w = record {
-      same = w.same ∙ length-set codes j (c % 256);
-      all = λ z. passed (w.all z);
-      some = λ z rest. unit-read (many n (unit_in sets u) rest) at ∙ rw (e, w.some z rest) refl;
-    }
+        → Walks (suc n) at j codes (pick a (stop (sought_of sets u t at).at.0 codes) run)
+    one_more n at j codes run true h e w = record { same = refl; is = λ rest. unit-read (many n (unit_in sets u) rest) at ∙ rw e refl }
+    one_more n at j codes run false h e w = record { same = w.same ∙ length-set codes j (c % 256); is = on run.walked w.is }
       where
         c : ℕ
         c = found_of sets (sought_of sets u t at) - 1
@@ -344,9 +331,9 @@ module _ (t : List ℕ) (b : Bytes t) where
         lows cs s zero = below
         lows cs s (suc i) = s i
 
-        passed : Passed (many n (unit_in sets u)) t (sought_of sets u t at).next.0 run.walked.at.0 (j + 1) n (set codes j (c % 256)) run.codes
-            → Passed (many (suc n) (unit_in sets u)) t at run.walked.at.0 j (suc n) codes run.codes
-        passed p =
+        on : (r : Result ElementPlace ElementPlace) → PartEnds (many n (unit_in sets u)) t (sought_of sets u t at).next.0 (j + 1) n (set codes j (c % 256)) run.codes r
+            → PartEnds (many (suc n) (unit_in sets u)) t at j (suc n) codes run.codes r
+        on (Ok to) p =
             let byte : c % 256 ≡ c = omega (arith, below) in
             record {
               rows = c ∷ p.rows;
@@ -355,12 +342,12 @@ module _ (t : List ℕ) (b : Bytes t) where
               is = λ rest. unit-read (many n (unit_in sets u) rest) at ∙ rw (e, p.is rest) refl;
               puts = same_place (omega arith) (then (one codes j c h) (rw byte at p.puts));
             }
+        on (Err place) f = λ rest. unit-read (many n (unit_in sets u) rest) at ∙ rw (e, f rest) refl
 
     pub walks : (n at j : ℕ) (codes : List ℕ) → j + n ≤ length codes → Walks n at j codes (walk_by sets u t n at j codes)
     walks zero at j codes h = record {
       same = refl;
-      all = λ z. record { rows = []; long = refl; small = λ i. omega arith; is = λ rest. refl; puts = same_place (omega arith) (none codes j (omega arith)) };
-      some = λ z. absurd (omega arith);
+      is = record { rows = []; long = refl; small = λ i. omega arith; is = λ rest. refl; puts = same_place (omega arith) (none codes j (omega arith)) };
     }
     walks (suc n) at j codes h =
         one_more n at j codes _ (eqb (found_of sets (sought_of sets u t at)) 0) (omega arith) refl
@@ -373,18 +360,20 @@ module _ (t : List ℕ) (b : Bytes t) where
         ≡ pick m.stands (read_at (many k (unit_in sets p.unit) rest) m.next.0 (drop m.next.0 t)) (stopped m.at.0)
     go_on rest = rw f (mark-read p.mark (both_left (mark_reads p.mark) _ h) (many k (unit_in sets p.unit) rest) at)
 
-    pub part-stops : m.stands ≡ false → PartRead sets p k t at first codes (record { at = m.at; left = 1 }) codes
-    part-stops e = record { same = refl; all = λ z. absurd (omega arith); some = λ z rest. go_on rest ∙ rw e refl }
+    pub part-stops : m.stands ≡ false → PartRead sets p k t at first codes (Err m.at) codes
+    part-stops e = record { same = refl; is = λ rest. go_on rest ∙ rw e refl }
 
-    pub part-goes : first + k ≤ length codes → m.stands ≡ true → (r : Walked) (after : List ℕ)
+    pub part-goes : first + k ≤ length codes → m.stands ≡ true → (r : Result ElementPlace ElementPlace) (after : List ℕ)
         → r ≡ (walk_by sets p.unit t k m.next.0 first codes).walked → after ≡ (walk_by sets p.unit t k m.next.0 first codes).codes
         → PartRead sets p k t at first codes r after
     part-goes l e r after x y =
         let w = walks sets p.unit (both_right (mark_reads p.mark) _ h) k m.next.0 first codes l in
-        let on : (rest : List Kind) → read_at (part_kinds sets p k rest) at (drop at t) ≡ read_at (many k (unit_in sets p.unit) rest) m.next.0 (drop m.next.0 t)
-        = λ rest. go_on rest ∙ rw e refl in
-        rw (x, y) (record {
-          same = w.same;
-          all = λ z. let q = w.all z in record { rows = q.rows; long = q.long; small = q.small; is = λ rest. on rest ∙ q.is rest; puts = q.puts };
-          some = λ z rest. on rest ∙ w.some z rest;
-        })
+        rw (x, y) (record { same = w.same; is = by _ (walk_by sets p.unit t k m.next.0 first codes).walked w.is })
+      where
+        on : (rest : List Kind) → read_at (part_kinds sets p k rest) at (drop at t) ≡ read_at (many k (unit_in sets p.unit) rest) m.next.0 (drop m.next.0 t)
+        on rest = go_on rest ∙ rw e refl
+
+        by : (now : List ℕ) (r : Result ElementPlace ElementPlace) → PartEnds (many k (unit_in sets p.unit)) t m.next.0 first k codes now r
+            → PartEnds (part_kinds sets p k) t at first k codes now r
+        by now (Ok to) q = record { rows = q.rows; long = q.long; small = q.small; is = λ rest. on rest ∙ q.is rest; puts = q.puts }
+        by now (Err place) f = λ rest. on rest ∙ f rest

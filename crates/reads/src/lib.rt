@@ -1,6 +1,6 @@
 // Strip to row: the second of the two translations, its reading half (document 01, "Units and working room").
 //
-// `row_seen` hands back the drawn characters of a strip in lent places, or turns it away with the first of 1, 2, 9, 10, 11 that applies.
+// `row_seen` hands back the drawn characters of a strip in a lent row, or turns it away with the first of 1, 2, 9, 10, 11 that applies.
 // The strip's length gives the count of characters; with it the symbology's parts say which units stand where. They are tested left to
 // right, and the first that is in no row ends the walk.
 //
@@ -18,60 +18,49 @@ ghost use Rattle.laws.specs.Units.{read};
 ghost use Rattle.symbologies.specs.Sizes.{places};
 ghost use Rattle.symbologies.specs.Strips.{units_of, counted, row_seen};
 ghost use Rattle.symbologies.specs.Told.{pad, told, filled_as};
-ghost use Rattle.reads.specs.Walk.{row_from, shown, shown_in};
+ghost use Rattle.reads.specs.Walk.{SeenIn, row_from, shown, shown_in};
 
-use symbologies::judging::Verdict;
-use symbologies::row::Filled;
+use symbologies::row::Row;
 use symbologies::sizes::PLACES;
 use symbologies::{judging, lengths, row};
 use words::Answer;
 
-// The row of a strip, in the lent places.
-pub fn row_seen(symbology: u8, mode: u8, strip: &[u8], codes: &mut [u8; PLACES]) -> Filled
-    ensures { filled_as result codes.new ≡ told (row_seen symbology mode strip.now) }
+// The row of a strip, in the lent row.
+pub fn row_seen(symbology: u8, mode: u8, strip: &[u8], row: &mut Row) -> Result<(), Answer>
+    ensures { filled_as result row.new ≡ told (row_seen symbology mode strip.now) }
 {
-    *codes = [0; PLACES];
+    *row = Row::EMPTY;
     let n = lengths::count_for(symbology, strip.len());
-    match judging::judge_count(symbology, mode, n) {
-        Verdict::Turned(answer) => row::refuse(answer, codes),
-        Verdict::Given => read_strip(symbology, n, strip, codes),
+    judging::judge_count(symbology, mode, n)?;
+    match read_strip(symbology, n, strip, &mut row.codes) {
+        Ok(()) => row::give(n, row),
+        Err(answer) => row::refuse(answer, row),
     }
 }
 
-// 10, 11, or the row of n characters.
-fn read_strip(symbology: u8, n: usize, strip: &[u8], codes: &mut [u8; PLACES]) -> Filled
+// 10, 11, or the characters of a row of n, in places that were empty.
+// Stays all the places and n: what is promised, `SeenIn`, is of every place, those behind the characters too.
+fn read_strip(symbology: u8, n: usize, strip: &[u8], codes: &mut [u8; PLACES]) -> Result<(), Answer>
     requires { (counted symbology n ≡ true) × (codes.old ≡ pad places []) }
-    ensures { filled_as result codes.new ≡ told (shown symbology n (read (units_of symbology n) strip.now)) }
+    ensures { SeenIn (shown symbology n (read (units_of symbology n) strip.now)) n result codes.new }
 {
-    let walked = walk::read_all(strip, symbology, n, codes);
-    let at = walked.at;
-    if 0 < walked.left {
-        return row::refuse(Answer::NoSuchUnit(at), codes);
-    }
+    walk::read_all(strip, symbology, n, codes).map_err(Answer::NoSuchUnit)?;
     match symbology {
-        3 => {
-            chars::letters(codes, n);
-            row::give(n)
-        }
-        5 => {
-            chars::pairs(codes, n);
-            row::give(n)
-        }
-        7 => see_first(codes, n),
-        _ => row::give(n),
+        3 => chars::letters(codes, n),
+        5 => chars::pairs(codes, n),
+        7 => see_first(codes)?,
+        _ => {}
     }
+    Ok(())
 }
 
-// EAN-13: 11, or the row, whose first digit stands in the sets of the left units.
-fn see_first(codes: &mut [u8; PLACES], n: usize) -> Filled
-    requires n_value { (n ≡ 13) × ((length codes.old ≡ places) × ((i : ℕ) → get_or codes.old i 0 < 100)) }
+// EAN-13: 11, or the characters, whose first digit stands in the sets of the left units.
+fn see_first(codes: &mut [u8; PLACES]) -> Result<(), Answer>
+    requires codes_small { (i : ℕ) → get_or codes.old i 0 < 100 }
     requires codes_bound { (get_or codes.old 0 0 < 10) × (((i : ℕ) → 7 ≤ i → get_or codes.old i 0 < 10) × ((i : ℕ) → 13 ≤ i → get_or codes.old i 0 ≡ 0)) }
-    ensures { filled_as result codes.new ≡ told (row_from 7 n (shown_in 7 codes.old)) }
+    ensures { SeenIn (row_from 7 13 (shown_in 7 codes.old)) 13 result codes.new }
 {
     let first = tables::ean::first_digit(chars::sides(codes));
-    if 9 < first {
-        return row::refuse(Answer::NoSuchParities, codes);
-    }
-    codes[0] = first;
-    row::give(n)
+    codes[0] = first.ok_or(Answer::NoSuchParities)?;
+    Ok(())
 }

@@ -14,33 +14,26 @@ pub struct Position<'a> {
     pub at: ElementPlace,
 }
 
-// A place of a strip.
-pub fn placed<'a>(strip: &'a [u8], at: ElementPlace) -> Position<'a>
-    ensures { (result.strip ≡ strip.entry) × (result.at ≡ at) }
-{
-    Position { strip, at }
-}
+impl<'a> Position<'a> {
+    // A place of a strip.
+    pub fn new(strip: &'a [u8], at: ElementPlace) -> Position<'a>
+        ensures { (result.strip ≡ strip.entry) × (result.at ≡ at) }
+    {
+        Position { strip, at }
+    }
 
-pub fn here<'a>(p: Position<'a>) -> ElementPlace
-    ensures { result ≡ p.entry.at }
-{
-    p.at
-}
+    // What is sought there, where a unit should stand.
+    pub fn sought(self, sets: &'a [[u64; 10]], unit: Unit) -> Sought
+        requires { seekable (length sets.now) unit ≡ true }
+        ensures { result ≡ sought_of sets.now unit self.entry.strip.now self.entry.at.0 }
+    {
+        seek::sought_at(sets, self.strip, self.at, unit)
+    }
 
-// What is sought there, where a unit should stand.
-pub fn sought<'a>(p: Position<'a>, sets: &'a [[u64; 10]], unit: Unit) -> Sought
-    requires { seekable (length sets.now) unit ≡ true }
-    ensures { result ≡ sought_of sets.now unit p.entry.strip.now p.entry.at.0 }
-{
-    seek::sought_at(sets, p.strip, p.at, unit)
-}
-
-// The position at another place of the same strip.
-pub fn moved<'a>(p: Position<'a>, to: ElementPlace) -> Position<'a>
-    ensures { (result.strip ≡ p.entry.strip) × (result.at ≡ to) }
-{
-    Position {
-        strip: p.strip,
-        at: to,
+    // The position at another place of the same strip.
+    pub fn moved(self, to: ElementPlace) -> Position<'a>
+        ensures { (result.strip ≡ self.entry.strip) × (result.at ≡ to) }
+    {
+        Position { at: to, ..self }
     }
 }

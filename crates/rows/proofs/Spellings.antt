@@ -2,25 +2,16 @@
 --
 --   push-in, put_in    a list in a row, with characters behind it
 --   Spelling       i bytes are spelled, and the characters beside the check of mode 1 are summed: `start`, `refused`, `taken-up`, `left_out`,
---                  `ended`; few-chars, the characters are few
+--                  `ended`
 --
 -- Assumes nothing.
-use mathlib.Core.Path.{◌≡◌, refl, sym, ap, ◌∙◌}
-use mathlib.Core.Bool.{Bool, true, false}
-use mathlib.Core.Logic.{inl, inr, ◌≢◌}
-use mathlib.Core.List.{List, [], ◌∷◌, ◌++◌, append-nil, append_assoc}
-use Prim.Native.Nat.{ℕ, suc, ◌+◌, ◌*◌, ◌-◌, ◌<◌, ◌≤◌}
-use native.Mathlib.Omega.{arith}
-use native.Mathlib.Decide.{ℕ_discrete}
-use native.Mathlib.Numerals.{add-one}
-use lib.Dec.{eqb}
-use lib.ListN.{length, get_or, take, drop, set, length-append, drop_of_length-le}
-use lib.Seq.{drop-cons, length-take-le, take_all, take_at}
-use borrow.Author.Tests.{eq-eqb, ne_eqb}
+use Rattle.std.proofs.Common.{◌≡◌, refl, sym, ap, ◌∙◌, Bool, true, false, inl, inr, ◌≢◌, List, [], ◌∷◌, ◌++◌, append-nil, append_assoc, ℕ, suc, ◌+◌, ◌*◌, ◌-◌, ◌<◌, ◌≤◌, arith, add-one, eqb, length, get_or, take, drop, set, length-append, drop_of_length-le, drop-cons, length-take-le, take_all, take_at, eq-eqb, ne_eqb}
+use Rattle.std.proofs.Math.Decide.{ℕ_discrete}
 use Rattle.laws.specs.Search.{pick}
 use Rattle.laws.specs.Units.{found, stopped}
 use Rattle.laws.specs.Spelling.{Coder, join, took, spell}
-use Rattle.laws.proofs.Spelling.{spell-same, join-append, join-found, join-stopped, same_stop, same-found, never, ends_at}
+use Rattle.laws.proofs.Spelling.{spell-same, join-append, join-found, join-stopped, ends_at}
+use Rattle.words.specs.declared.Answer.TheVariants.{BadByte}
 use Rattle.words.specs.Order.{data_place}
 use Rattle.coders.specs.declared.Piece.{Piece}
 use Rattle.coders.specs.declared.Piece.TheVariants.{Alone, Pair, Nothing}
@@ -35,7 +26,7 @@ use Rattle.symbologies.proofs.Held.{set-pad}
 use Rattle.sums.specs.declared.Sum.{Sum}
 use Rattle.sums.specs.Sums.{Small, Kept, summed, Begins, Suits, own_in, others_in}
 use Rattle.sums.proofs.Sums.{small-more, summed-append, checks}
-use Rattle.rows.specs.Held.{pushed, put_all, SpelledAs}
+use Rattle.rows.specs.Held.{pushed, put_all, SpelledAll, Stopped}
 
 -- ---- a list in a row
 
@@ -58,7 +49,6 @@ piece-short Nothing = omega arith
 
 -- of the characters that are done, the last is the check once i is past its byte
 pub record Spelling (k : Coder) (own : ℕ) (text : List ℕ) (begun : Sum) (row : Row) (i : ℕ) (sum : Sum) : Type 0 where
-  pub within : i ≤ length text
   pub done : List ℕ
   pub is : row ≡ row_in done
   pub few : length done ≤ 2 * i
@@ -66,13 +56,10 @@ pub record Spelling (k : Coder) (own : ℕ) (text : List ℕ) (begun : Sum) (row
   pub sum_is : sum ≡ summed begun (take (length done - (i - own)) done)
   pub small : Small (2 * i) sum
 
-pub start : (k : Coder) (own : ℕ) (text : List ℕ) (begun : Sum) (codes : List ℕ) → codes ≡ pad places [] → Small 0 begun → Spelling k own text begun (record { codes = codes; len = 0 }) 0 begun
-start k own text begun codes e h =
+pub start : (k : Coder) (own : ℕ) (text : List ℕ) (begun : Sum) (row : Row) → row ≡ row_in [] → Small 0 begun → Spelling k own text begun row 0 begun
+start k own text begun row e h =
     let z : 0 - (0 - own) ≡ 0 = omega arith in
-    record { within = omega arith; done = []; is = rw e; few = omega arith; same = refl; sum_is = rw z; small = h }
-
-pub few-chars : (k : Coder) (own : ℕ) (text : List ℕ) (begun : Sum) (row : Row) (i : ℕ) (sum : Sum) → Spelling k own text begun row i sum → length text ≤ places → row.len < 900
-few-chars k own text begun row i sum s h = omega (arith, ap (λ (r : Row). r.len) s.is, s.few, s.within)
+    record { done = []; is = e; few = omega arith; same = refl; sum_is = rw z; small = h }
 
 -- byte i draws a piece; `nil` is the test that it draws nothing
 module _ (y : Symbology) (mode : ℕ) (text : List ℕ) (begun : Sum) (row : Row) (i : ℕ) (sum : Sum) (s : Spelling (y.coder mode) (own_in mode (length text)) text begun row i sum)
@@ -86,10 +73,8 @@ module _ (y : Symbology) (mode : ℕ) (text : List ℕ) (begun : Sum) (row : Row
       let e : eqb (suc i) (length text) ≡ eqb (i + 1) (length text) = rw add-one in
       s.same ∙ rw (drop-cons text i 0 h, ends_at text (suc i) (length text) refl h, e, ← d)
 
-  pub refused : nil ≡ true → (codes : List ℕ) → SpelledAs y mode text (record { len = row.len; bad = data_place i; sum = sum }) codes
-  refused t codes =
-      let z : spell k true 0 text ≡ stopped i = left ∙ go (piece_list p) (sym n ∙ t) in
-      record { stop = λ j q. same_stop i j (sym z ∙ q); all = λ g q. absurd (never i g (sym z ∙ q)) }
+  pub refused : nil ≡ true → Stopped y mode text (BadByte (data_place i))
+  refused t = record { place = data_place i; is = refl; stops = left ∙ go (piece_list p) (sym n ∙ t) }
     where
       go : (cs : List ℕ) → is_nil cs ≡ true → join s.done (took i cs (spell k false (suc i) (drop (suc i) text))) ≡ stopped i
       go [] e = join-stopped s.done i
@@ -111,7 +96,6 @@ module _ (y : Symbology) (mode : ℕ) (text : List ℕ) (begun : Sum) (row : Row
     next : (sum' : Sum) → sum' ≡ summed begun (take (length (s.done ++ piece_list p) - (i + 1 - own_in mode (length text))) (s.done ++ piece_list p)) → Small (2 * (i + 1)) sum'
         → Spelling k (own_in mode (length text)) text begun new (i + 1) sum'
     next sum' f g = record {
-      within = omega arith;
       done = s.done ++ piece_list p;
       is = e ∙ ap (λ (r : Row). put_all r (piece_list p)) s.is ∙ put_in s.done (piece_list p);
       few = rw length-append (omega (arith, s.few, piece-short p));
@@ -170,20 +154,14 @@ module _ (s mode : ℕ) (text : List ℕ) (some : 0 < length text) where
       go (no q) = inl (length-take-le (own_in mode (length h)) h (own-low (eqb mode 1) (length h)) ∙ rw (spell-same coder (single s q mode) text h true 0 e))
 
   pub ended : (begun : Sum) → ((k : ℕ) → Suits s (own_in mode (length text)) k → Begins (symbology_of s).rule k begun) → (row : Row) (i : ℕ) (sum : Sum)
-      → Spelling coder (own_in mode (length text)) text begun row i sum → length text ≤ i
-      → SpelledAs (symbology_of s) mode text (record { len = row.len; bad = data_place (length text); sum = sum }) row.codes
+      → Spelling coder (own_in mode (length text)) text begun row i sum → i ≡ length text → SpelledAll (symbology_of s) mode text row sum
   ended begun b row i sum w h =
-      let z : spell coder true 0 text ≡ found w.done = w.same ∙ rw (drop_of_length-le text {i = i} h) (join-found w.done) in
-      let n : i ≡ length text = omega (arith, w.within) in
+      let z : spell coder true 0 text ≡ found w.done = w.same ∙ rw (drop_of_length-le text {i = i} (omega arith)) (join-found w.done) in
       record {
-        stop = λ j p. absurd (never j w.done (sym p ∙ z));
-        all = λ g p.
-            let f : w.done ≡ g = same-found w.done g (sym z ∙ p) in
-            record {
-              whole = refl;
-              row = w.is ∙ ap row_in f;
-              sum = checks (symbology_of s).rule (others_in mode g) begun sum (b (length (others_in mode g)) (suits g p)) (w.sum_is ∙ rw (f, n) (ap (summed begun) (beside (eqb mode 1) g)));
-            };
+        body = w.done;
+        is = z;
+        row_is = w.is;
+        check = checks (symbology_of s).rule (others_in mode w.done) begun sum (b (length (others_in mode w.done)) (suits w.done z)) (w.sum_is ∙ rw h (ap (summed begun) (beside (eqb mode 1) w.done)));
       }
     where
       beside : (b : Bool) (g : List ℕ) → take (length g - (length text - pick b (length text - 1) (length text))) g ≡ take (pick b (length g - 1) (length g)) g

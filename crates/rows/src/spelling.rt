@@ -1,83 +1,60 @@
 // Data to characters, by what the bytes of a symbology draw where they stand.
-ghost use Rattle.std.specs.Prelude.{◌≡◌, [], ◌<◌, ◌≤◌, length, set};
+ghost use Rattle.std.specs.Prelude.{◌≡◌, [], ◌<◌, ◌≤◌, length};
 ghost use Rattle.coders.specs.Pieces.{piece_list};
 ghost use Rattle.symbologies.specs.Sizes.{places};
-ghost use Rattle.symbologies.specs.Told.{pad};
+ghost use Rattle.symbologies.specs.Told.{row_in};
 ghost use Rattle.symbologies.specs.Symbologies.{symbology_of};
-ghost use Rattle.rows.specs.Held.{put_all, SpelledAs};
+ghost use Rattle.rows.specs.Held.{pushed, put_all, SpelledAs};
 
 use coders::Piece;
 use sums::Sum;
+use symbologies::row::Row;
 use symbologies::sizes::PLACES;
-use words::DataPlace;
+use words::{Answer, DataPlace};
 
-// How many characters came out, the place of the first byte that is not allowed, or the number of all, and the sum of the characters
-// beside the check that the data hold in mode 1.
-#[derive(Clone, Copy)]
-pub struct Spelled {
-    pub len: usize,
-    pub bad: DataPlace,
-    pub sum: Sum,
-}
-
-// A character stored at a place, or nothing past the places.
-fn store(codes: &mut [u8; PLACES], at: usize, value: u8)
-    requires { length codes.old ≡ places }
-    ensures { codes.new ≡ set codes.old at value }
+// A character behind those of a row; past the places none is stored.
+pub fn push(row: &mut Row, value: u8)
+    requires { row.old.len < 999 }
+    ensures { row.new ≡ pushed row.old value }
 {
-    if at < PLACES {
-        codes[at] = value;
+    // Stays an `if`: tried with `get_mut`, the proof did not close, since what it wrote of an array is not known.
+    if row.len < PLACES {
+        row.codes[row.len] = value;
     }
+    row.len += 1;
 }
 
-// A piece's characters behind the first `len`, and how many there are then.
-fn put(codes: &mut [u8; PLACES], len: usize, piece: Piece) -> usize
-    requires { (len < 900) × (length codes.old ≡ places) }
-    ensures result_value { record { codes = codes.exit.now; len = result } ≡ put_all (record { codes = codes.entry.now; len = len }) (piece_list piece) }
-    ensures codes_len { length codes.new ≡ places }
+// A piece's characters behind those of a row.
+fn put(row: &mut Row, piece: Piece)
+    requires { row.old.len < 900 }
+    ensures { row.new ≡ put_all row.old (piece_list piece) }
 {
     match piece {
-        Piece::Alone(value) => {
-            store(codes, len, value);
-            len + 1
-        }
+        Piece::Alone(value) => push(row, value),
         Piece::Pair(shift, letter) => {
-            store(codes, len, shift);
-            store(codes, len + 1, letter);
-            len + 2
+            push(row, shift);
+            push(row, letter);
         }
-        Piece::Nothing => len,
+        Piece::Nothing => {}
     }
 }
 
-// The characters of data.
-pub fn spell_text(symbology: u8, mode: u8, text: &[u8], codes: &mut [u8; PLACES]) -> Spelled
-    requires { ((0 < length text.now) × (length text.now ≤ places)) × (codes.old ≡ pad places []) }
-    ensures { SpelledAs (symbology_of symbology) mode text.now result codes.new }
+// 4, or the characters of data in an empty row, and the sum of those beside the check that the data hold in mode 1.
+pub fn spell_text(symbology: u8, mode: u8, text: &[u8], row: &mut Row) -> Result<Sum, Answer>
+    requires { ((0 < length text.now) × (length text.now ≤ places)) × (row.old ≡ row_in []) }
+    ensures { SpelledAs (symbology_of symbology) mode text.now row.new result }
 {
-    let n = text.len();
-    let own = sums::own_of(mode, n);
+    let own = sums::own_of(mode, text.len());
     let mut sum = sums::start_of(symbology, own);
-    let mut len = 0;
-    let mut i = 0;
-    while i < n {
-        let piece = coders::drawn(symbology, mode, i == 0, i + 1 == n, text[i]);
+    for (i, &byte) in text.iter().enumerate() {
+        let piece = coders::drawn(symbology, mode, i == 0, i + 1 == text.len(), byte);
         if coders::is_nothing(piece) {
-            return Spelled {
-                len,
-                bad: DataPlace(i),
-                sum,
-            };
+            return Err(Answer::BadByte(DataPlace(i)));
         }
-        len = put(codes, len, piece);
+        put(row, piece);
         if i != own {
             sum = sums::take_up(sum, piece);
         }
-        i += 1;
     }
-    Spelled {
-        len,
-        bad: DataPlace(n),
-        sum,
-    }
+    Ok(sum)
 }

@@ -1,23 +1,16 @@
 -- What is found by a word. Elements are bytes, so a row and its word tell each other; the computed tests `mark_reads` and `unit_reads` say
 -- that each row is found by its own word, and a word that is found is one of the sets' and so a row's.
 --
---   Bytes        each of a list is below 256
+--   Bytes        each of a list is below 256; take-bytes, so are its first
+--   low_below    what elements make, the last of which fits a half-byte
 --   mark-found   a mark is there exactly if its word is seen
 --   few-rows     a readable unit has at most a hundred rows
 --   unit-found   what is found of elements is the number of the unit's row that they are, and one; 0 where they are none
 --
 -- Assumes nothing.
-use mathlib.Core.Path.{◌≡◌, refl, sym, ap, ◌∙◌}
-use mathlib.Core.Logic.{◌≢◌}
-use mathlib.Core.Bool.{Bool, true, false, ◌&&◌, ◌||◌}
-use mathlib.Core.List.{List, [], ◌∷◌, ◌++◌, map}
-use Prim.Native.Nat.{ℕ, zero, suc, ◌+◌, ◌*◌, ◌-◌, ◌/◌, ◌%◌, ◌^◌, ◌<◌, ◌≤◌}
-use native.Mathlib.Omega.{arith}
-use native.Mathlib.Nat.{add-zero, pow-suc}
-use lib.Dec.{eqb, ltb, leb}
-use lib.ListN.{length, get_or, take, drop, length-map, length-drop, length-take}
-use lib.Seq.{length-take-le, take-suc, take_all, get_or-take, get_or-drop}
-use borrow.Author.Tests.{eqb-true, eqb-false, eq-eqb, ltb-true, ltb-false, leb-true, not-true}
+use Rattle.std.proofs.Common.{◌^◌, pow-suc, ◌≡◌, refl, sym, ap, ◌∙◌, ◌≢◌, Bool, true, false, ◌&&◌, ◌||◌, List, [], ◌∷◌, ◌++◌, map, ℕ, zero, suc, ◌+◌, ◌*◌, ◌-◌, ◌/◌, ◌%◌, ◌<◌, ◌≤◌, arith, add-zero, eqb, ltb, leb, length, get_or, take, drop, length-drop, length-take, length-take-le, take-suc, take_all, get_or-take, get_or-drop, eqb-true, eq-eqb, ltb-true, ltb-false, leb-true}
+use lib.ListN.{length-map}
+use borrow.Author.Tests.{eqb-false, not-true}
 use Rattle.laws.specs.Search.{pick, upto}
 use Rattle.laws.specs.Elements.{alike, find}
 use Rattle.laws.specs.Spelling.{counted}
@@ -38,7 +31,7 @@ Bytes xs = (i : ℕ) → get_or xs i 0 < 256
 
 -- ---- rows and words
 
-take-bytes : (n : ℕ) (xs : List ℕ) → Bytes xs → Bytes (take n xs)
+pub take-bytes : (n : ℕ) (xs : List ℕ) → Bytes xs → Bytes (take n xs)
 take-bytes zero xs b i = omega arith
 take-bytes (suc n) [] b i = omega arith
 take-bytes (suc n) (x ∷ xs) b zero = b 0
@@ -51,7 +44,7 @@ bytes_low (x ∷ xs) b =
     let d : (x + 256 * low xs) / 256 ≡ low xs = omega (arith, b 0) in
     rw (m, d, bytes_low xs (λ i. b (suc i)))
 
-low_below : (n : ℕ) (xs : List ℕ) → length xs ≡ suc n → Bytes xs → get_or xs n 0 < 16 → low xs < 16 * 256 ^ n
+pub low_below : (n : ℕ) (xs : List ℕ) → length xs ≡ suc n → Bytes xs → get_or xs n 0 < 16 → low xs < 16 * 256 ^ n
 low_below n [] l b h = absurd (omega arith)
 low_below zero (x ∷ []) l b h = omega arith
 low_below zero (x ∷ y ∷ xs) l b h = absurd (omega arith)

@@ -1,5 +1,4 @@
 pub mod Found
-pub mod Low
 pub mod Matches
 pub mod Places
 pub mod Bounds

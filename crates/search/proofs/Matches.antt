@@ -1,45 +1,31 @@
 -- A word looked for in a set, of which ten words are looked at: what is found is small.
 --
---   match-next    the words from a digit on are the one there, or 0 past the end, which is not sought, and those behind it
---   set-bound     what is found among ten words is at most 100; digit-bound, a digit, likewise
+--   match-last    of one word more that is looked at; past the end it is 0, which is not sought
+--   match-bound   what is found among n words is at most n times the last one's number and one
+--   digit-bound   and so a digit among ten is at most 100
 --
 -- Assumes nothing.
-use mathlib.Core.Path.{◌≡◌, refl}
-use mathlib.Core.Bool.{Bool, true, false}
-use mathlib.Core.List.{List, [], ◌∷◌}
-use Prim.Native.Nat.{ℕ, zero, suc, ◌+◌, ◌*◌, ◌≤◌, zero-le}
-use native.Mathlib.Omega.{arith}
-use native.Mathlib.Nat.{suc-mul}
-use lib.Dec.{eqb}
-use lib.ListN.{get_or, take, drop}
-use lib.Seq.{drop-drop}
+use Rattle.std.proofs.Common.{◌≡◌, refl, Bool, true, false, List, [], ◌∷◌, ℕ, zero, suc, ◌+◌, ◌*◌, ◌≤◌, zero-le, arith, suc-mul, add-one, add-zero, eqb, get_or, take}
 use Rattle.laws.specs.Search.{pick}
 use Rattle.shapes.specs.Searched.{matches, digit_in}
-use Rattle.search.proofs.Low.{head}
 
-module _ (w : ℕ) (e : eqb 0 w ≡ false) where
-  match-first : (xs : List ℕ) (n d : ℕ) → matches w (take (suc n) xs) d ≡ pick (eqb (get_or xs 0 0) w) (d + 1) 0 + matches w (take n (drop 1 xs)) (d + 1)
-  match-first [] zero d = rw e refl
-  match-first [] (suc n) d = rw e refl
-  match-first (x ∷ xs) n d = refl
-
-  pub match-next : (ws : List ℕ) (n d : ℕ)
-      → matches w (take (suc n) (drop d ws)) d ≡ pick (eqb (get_or ws d 0) w) (d + 1) 0 + matches w (take n (drop (d + 1) ws)) (d + 1)
-  match-next ws n d = rw (head ws d, drop-drop 1 d ws) at (match-first (drop d ws) n d)
+pub match-last : (w : ℕ) → eqb 0 w ≡ false → (xs : List ℕ) (n d : ℕ)
+    → matches w (take (n + 1) xs) d ≡ matches w (take n xs) d + pick (eqb (get_or xs n 0) w) (d + n + 1) 0
+match-last w e [] zero d = rw e refl
+match-last w e [] (suc n) d = rw (e, add-one (suc n)) refl
+match-last w e (x ∷ xs) zero d = rw (add-zero d) (omega arith)
+match-last w e (x ∷ xs) (suc n) d =
+    let p : d + 1 + n + 1 ≡ d + suc n + 1 = omega arith in
+    rw (add-one (suc n)) (omega (arith, rw (add-one n, p) at (match-last w e xs n (d + 1))))
 
 pick-bound : (b : Bool) (n : ℕ) → pick b n 0 ≤ n
 pick-bound true n = omega arith
 pick-bound false n = zero-le
 
-match-bound : (w : ℕ) (ws : List ℕ) (n d : ℕ) → matches w (take n ws) d ≤ n * (d + n)
-match-bound w ws zero d = zero-le
-match-bound w [] (suc n) d = zero-le
-match-bound w (x ∷ ws) (suc n) d =
-    let e : d + 1 + n ≡ d + suc n = omega arith in
-    omega (arith, rw e at (match-bound w ws n (d + 1)), pick-bound (eqb x w) (d + 1), suc-mul n (d + suc n))
-
-pub set-bound : (w : ℕ) (ws : List ℕ) → matches w (take 10 ws) 0 ≤ 100
-set-bound w ws = match-bound w ws 10 0
+pub match-bound : (m w : ℕ) (ws : List ℕ) (n d : ℕ) → d + n ≤ m → matches w (take n ws) d ≤ n * m
+match-bound m w ws zero d h = zero-le
+match-bound m w [] (suc n) d h = zero-le
+match-bound m w (x ∷ ws) (suc n) d h = omega (arith, match-bound m w ws n (d + 1) (omega arith), pick-bound (eqb x w) (d + 1), suc-mul n m)
 
 pub digit-bound : (sets : List (List ℕ)) (s w : ℕ) → digit_in sets s w ≤ 100
 unfolding digit_in
@@ -47,4 +33,4 @@ digit-bound sets s w = go (eqb w 0)
   where
     go : (b : Bool) → pick b 0 (matches w (take 10 (get_or sets s [])) 0) ≤ 100
     go true = zero-le
-    go false = set-bound w (get_or sets s [])
+    go false = match-bound 10 w (get_or sets s []) 10 0 (omega arith)

@@ -1,78 +1,48 @@
--- What stands at a place, by the tests in the order in which the code makes them.
+-- What stands at a place, by where its elements begin.
 --
---   within           what `reaches` answers, as a bound
---   parted-inside    a narrow space stands within the strip
---   mark-none, mark-apart, mark-past, mark-there    a mark: of no elements; no narrow space before it; past the strip's end; within
---   sought-apart, sought-past, sought-there         a unit, likewise
---   pair-drop        the elements of a pair but the first
+--   by_begun      one of two, by whether elements begin there, as the tests of the definitions choose
+--   begun-long    elements that begin there are all there
+--   mark-begun    a mark of elements; sought-begun, what is sought
 --
 -- Assumes nothing.
-use mathlib.Core.Path.{◌≡◌, refl, sym, ◌∙◌}
-use mathlib.Core.Bool.{Bool, true, false, not}
-use mathlib.Core.List.{List, [], ◌∷◌}
-use Prim.Native.Nat.{ℕ, zero, suc, ◌+◌, ◌<◌, ◌≤◌}
-use native.Mathlib.Omega.{arith}
-use lib.Dec.{eqb, ltb, leb}
-use lib.ListN.{length, get_or, take, drop, get_or-eq_default}
-use lib.Seq.{drop-drop}
-use borrow.Author.Tests.{eqb-true, leb-true, ltb-true, ltb-false, not-true, not-false, eq-eqb, ne_eqb}
+use Rattle.std.proofs.Common.{Bool, true, false, List, Result, Ok, Err, ℕ, ◌+◌, ◌≤◌, ◌≡◌, refl, sym, ◌∙◌, eqb, leb, leb-true, length, take, drop, length-drop, length-take-le, arith}
+use Rattle.laws.specs.Search.{pick}
 use Rattle.shapes.specs.declared.parts.Mark.{Mark}
 use Rattle.shapes.specs.declared.parts.Unit.{Unit}
 use Rattle.shapes.specs.Searched.{seen}
-use Rattle.search.specs.declared.seek.Sought.{Sought}
-use Rattle.search.specs.Sought.{parted_at, behind, marked, mark_of, nowhere, sought_in, sought_of}
+use Rattle.search.specs.Sought.{parted_at, behind, begun, marked, mark_of, nowhere, sought_in, sought_of}
 
-pub within : (a n : ℕ) {q : Bool} → q ≡ leb a n → not q ≡ false → a ≤ n
-within a n {q} e h = leb-true a n (sym e ∙ not-false q h)
+abbrev pub by_begun : {A : Type 0} → (ℕ → A) → (ℕ → A) → Result ℕ ℕ → A
+by_begun f g (Ok at) = f at
+by_begun f g (Err at) = g at
 
-pub parted-inside : (g : Bool) (t : List ℕ) (at : ℕ) {r : Bool} → r ≡ parted_at g t at → not r ≡ false → g ≡ true → at < length t
-parted-inside true t at {r} e h p = go (ltb at (length t)) refl
-  where
-    go : (b : Bool) → ltb at (length t) ≡ b → at < length t
-    go true k = ltb-true at (length t) k
-    go false k =
-        let z : get_or t at 0 ≡ 0 = get_or-eq_default t 0 {n = at} (ltb-false at (length t) k) in
-        absurd (omega (arith, z, eqb-true (get_or t at 0) 1 (sym e ∙ not-false r h)))
-parted-inside false t at e h p = let z : ◌≡◌ {A = ℕ} 0 1 = cc in omega arith
+chosen : {A : Type 0} (f g : ℕ → A) (p l : Bool) (at place : ℕ)
+    → by_begun f g (pick p (pick l (Ok at) (Err at)) (Err place)) ≡ pick p (pick l (f at) (g at)) (g place)
+chosen f g true true at place = refl
+chosen f g true false at place = refl
+chosen f g false l at place = refl
 
-module _ (m : Mark) (t : List ℕ) (place : ℕ) where
-  pub mark-none : m.elements ≡ 0 → marked place place true ≡ mark_of m t place
+inside : (p l : Bool) (b place k n at : ℕ) → leb (b + k) n ≡ l → pick p (pick l (Ok b) (Err b)) (Err place) ≡ Ok at → at + k ≤ n
+inside true true b place k n at e h = let q : b ≡ at = cc in omega (arith, leb-true (b + k) n e)
+inside true false b place k n at e h = cc
+inside false l b place k n at e h = cc
+
+pub begun-long : (g : Bool) (t : List ℕ) (place k at : ℕ) {r : Result ℕ ℕ} → r ≡ begun g t place k → r ≡ Ok at → length (take k (drop at t)) ≡ k
+begun-long g t place k at e h =
+    let l = inside (parted_at g t place) (leb (behind g place + k) (length t)) (behind g place) place k (length t) at refl (sym e ∙ h) in
+    length-take-le k (drop at t) (omega (arith, length-drop at t))
+
+module _ (t : List ℕ) (place : ℕ) {r : Result ℕ ℕ} where
+  pub mark-begun : (m : Mark) → eqb m.elements 0 ≡ false → r ≡ begun m.gap t place m.elements
+      → by_begun (λ at. marked at (at + m.elements) (eqb (seen m.elements (take m.elements (drop at t))) m.word)) (λ at. marked at at false) r ≡ mark_of m t place
   unfolding mark_of
-  mark-none e = rw (eq-eqb m.elements 0 e)
+  mark-begun m n e =
+      let at : ℕ = behind m.gap place in
+      rw (n, e) (chosen (λ at. marked at (at + m.elements) (eqb (seen m.elements (take m.elements (drop at t))) m.word)) (λ at. marked at at false) (parted_at m.gap t place) (leb (at + m.elements) (length t)) at place)
 
-  module _ (n : m.elements ≡ 0 → ⊥) {r : Bool} (p : r ≡ parted_at m.gap t place) where
-    pub mark-apart : not r ≡ true → marked place place false ≡ mark_of m t place
-    unfolding mark_of
-    mark-apart h = rw (ne_eqb m.elements 0 n, ← p, not-true r h)
-
-    module _ (h : not r ≡ false) {at : ℕ} (b : at ≡ behind m.gap place) {q : Bool} (l : q ≡ leb (at + m.elements) (length t)) where
-      pub mark-past : not q ≡ true → marked at at false ≡ mark_of m t place
-      unfolding mark_of
-      mark-past k = rw (ne_eqb m.elements 0 n, ← p, not-false r h, ← b, ← l, not-true q k)
-
-      pub mark-there : not q ≡ false → {w : ℕ} → w ≡ seen m.elements (take m.elements (drop at t))
-          → marked at (at + m.elements) (eqb w m.word) ≡ mark_of m t place
-      unfolding mark_of
-      mark-there k e = rw (ne_eqb m.elements 0 n, ← p, not-false r h, ← b, ← l, not-false q k, e)
-
-module _ (sets : List (List ℕ)) (u : Unit) (t : List ℕ) (place : ℕ) {r : Bool} (p : r ≡ parted_at u.gap t place) where
-  pub sought-apart : not r ≡ true → nowhere place ≡ sought_of sets u t place
+  pub sought-begun : (sets : List (List ℕ)) (u : Unit) → r ≡ begun u.gap t place u.elements
+      → by_begun (λ at. sought_in sets u (take u.elements (drop at t)) at) nowhere r ≡ sought_of sets u t place
   unfolding sought_of
-  sought-apart h = rw (← p, not-true r h)
-
-  module _ (h : not r ≡ false) {at : ℕ} (b : at ≡ behind u.gap place) {q : Bool} (l : q ≡ leb (at + u.elements) (length t)) where
-    pub sought-past : not q ≡ true → nowhere at ≡ sought_of sets u t place
-    unfolding sought_of
-    sought-past k = rw (← p, not-false r h, ← b, ← l, not-true q k)
-
-    pub sought-there : not q ≡ false → {x : Sought} → x ≡ sought_in sets u (take u.elements (drop at t)) at → x ≡ sought_of sets u t place
-    unfolding sought_of
-    sought-there k e = rw (← p, not-false r h, ← b, ← l, not-false q k) e
-
-drop-one : (xs : List ℕ) (k : ℕ) → drop 1 (take (suc k) xs) ≡ take k (drop 1 xs)
-drop-one [] zero = refl
-drop-one [] (suc k) = refl
-drop-one (x ∷ xs) k = refl
-
-pub pair-drop : (t : List ℕ) (at : ℕ) → drop 1 (take 10 (drop at t)) ≡ take 9 (drop (at + 1) t)
-pair-drop t at = drop-one (drop at t) 9 ∙ rw (drop-drop 1 at t)
+  sought-begun sets u e =
+      let at : ℕ = behind u.gap place in
+      rw e (chosen (λ at. sought_in sets u (take u.elements (drop at t)) at) nowhere (parted_at u.gap t place) (leb (at + u.elements) (length t)) at place)

@@ -1,13 +1,14 @@
 -- What stands at a place of a strip, in the structs of src/.
 --
 --   parted_at   whether a narrow space stands there, where there should be one; behind, the place behind it
+--   begun       where so many elements begin behind that space, or the place where it or they are missing
 --   mark_of     whether a mark stands there
 --   among_at    a word sought in sets; nowhere, no row can be there
 --   sought_in   what is sought by a unit's elements; pair_in, by a pair's
 --   sought_of   what is sought at a place: nothing at the space if that is not narrow, nothing at the unit if it passes the strip's end
 --   Bounded    set i of those that are looked through is there, and its rows have small numbers
 --   found_of    the number of the row that is found, and one; 0 where there is none
-use Rattle.std.specs.Prelude.{Bool, true, false, List, ℕ, ◌+◌, ◌*◌, ◌-◌, ◌/◌, ◌<◌, ◌≤◌, eqb, ltb, leb, length, get_or, take, drop}
+use Rattle.std.specs.Prelude.{Bool, true, false, Result, Ok, Err, List, ℕ, ◌+◌, ◌*◌, ◌-◌, ◌/◌, ◌<◌, ◌≤◌, eqb, ltb, leb, length, get_or, take, drop}
 use Rattle.laws.specs.Search.{pick}
 use Rattle.words.specs.Order.{element_place}
 use Rattle.shapes.specs.declared.parts.Mark.{Mark}
@@ -22,6 +23,10 @@ parted_at g t at = pick g (eqb (get_or t at 0) 1) true
 
 abbrev pub behind : Bool → ℕ → ℕ
 behind g at = pick g (at + 1) at
+
+abbrev pub begun : Bool → List ℕ → ℕ → ℕ → Result ℕ ℕ
+begun g t place k =
+    pick (parted_at g t place) (pick (leb (behind g place + k) (length t)) (Ok (behind g place)) (Err (behind g place))) (Err place)
 
 -- ---- marks
 

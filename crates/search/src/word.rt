@@ -1,81 +1,57 @@
 // Elements as a word: a byte an element, the first the lowest, and of nine elements the ninth in the upper half of the eighth byte.
-ghost use Rattle.std.specs.Prelude.{◌≡◌, ◌+◌, ◌≤◌, leb, length, take, drop};
+ghost use Rattle.std.specs.Prelude.{◌≡◌, ◌≤◌, length};
 ghost use Rattle.shapes.specs.Sets.{low};
 ghost use Rattle.shapes.specs.Searched.{seen, every_second};
 
-// Whether k elements stand from a place on.
-pub fn reaches(strip: &[u8], at: usize, k: usize) -> bool
-    ensures { result ≡ leb (at + k) (length strip.now) }
+// The word of at most eight.
+// Stays an arm for each size: a loop over the elements takes "about 0.5 more" (docs/SPEED.md, "What was tried"), and a copy into `[0; 8]` by
+// `copy_from_slice` a fifth more than these arms.
+fn several(elements: &[u8]) -> u64
+    requires { length elements.now ≤ 8 }
+    ensures { result ≡ low elements.now }
 {
-    if at <= strip.len() {
-        k <= strip.len() - at
-    } else {
-        false
+    match *elements {
+        [] => 0,
+        [a] => u64::from_le_bytes([a, 0, 0, 0, 0, 0, 0, 0]),
+        [a, b] => u64::from_le_bytes([a, b, 0, 0, 0, 0, 0, 0]),
+        [a, b, c] => u64::from_le_bytes([a, b, c, 0, 0, 0, 0, 0]),
+        [a, b, c, d] => u64::from_le_bytes([a, b, c, d, 0, 0, 0, 0]),
+        [a, b, c, d, e] => u64::from_le_bytes([a, b, c, d, e, 0, 0, 0]),
+        [a, b, c, d, e, f] => u64::from_le_bytes([a, b, c, d, e, f, 0, 0]),
+        [a, b, c, d, e, f, g] => u64::from_le_bytes([a, b, c, d, e, f, g, 0]),
+        [a, b, c, d, e, f, g, h, ..] => u64::from_le_bytes([a, b, c, d, e, f, g, h]),
     }
 }
 
-// At most four elements.
-fn few(strip: &[u8], at: usize, k: usize) -> u64
-    requires { (at + k ≤ length strip.now) × (k ≤ 4) }
-    ensures { result ≡ low (take k (drop at strip.now)) }
+// The word that elements make, or 0, which is no row's: nine make none where the eighth or the ninth does not fit its half of a byte.
+// Stays beside `several`: with nine as an arm of the same `match` Code 39 takes a fifth more to read.
+// Stays a number, 0 for none: `seen`, its promise, is a number for all elements, and `mark_of` and `sought_of` go by it.
+pub fn word_of(elements: &[u8]) -> u64
+    requires { length elements.now ≤ 9 }
+    ensures { result ≡ seen (length elements.now) elements.now }
 {
-    match k {
-        0 => 0,
-        1 => strip[at] as u64,
-        2 => strip[at] as u64 + strip[at + 1] as u64 * 0x100,
-        3 => strip[at] as u64 + strip[at + 1] as u64 * 0x100 + strip[at + 2] as u64 * 0x10000,
-        _ => strip[at] as u64
-            + strip[at + 1] as u64 * 0x100
-            + strip[at + 2] as u64 * 0x10000
-            + strip[at + 3] as u64 * 0x1000000,
+    if elements.len() < 9 {
+        return several(elements);
     }
-}
-
-// At most eight.
-fn several(strip: &[u8], at: usize, k: usize) -> u64
-    requires { (at + k ≤ length strip.now) × (k ≤ 8) }
-    ensures { result ≡ low (take k (drop at strip.now)) }
-{
-    if k < 5 {
-        return few(strip, at, k);
-    }
-    few(strip, at, 4) + few(strip, at + 4, k - 4) * 0x100000000
-}
-
-// Nine: no word where the eighth or the ninth does not fit its half of a byte.
-fn nine(strip: &[u8], at: usize) -> u64
-    requires { at + 9 ≤ length strip.now }
-    ensures { result ≡ seen 9 (take 9 (drop at strip.now)) }
-{
-    if 15 < strip[at + 7] {
+    if elements[7] > 15 || elements[8] > 15 {
         return 0;
     }
-    if 15 < strip[at + 8] {
-        return 0;
-    }
-    several(strip, at, 8) + strip[at + 8] as u64 * 0x1000000000000000
+    several(&elements[..8]) + elements[8] as u64 * 0x1000000000000000
 }
 
-// The word that k elements make, or 0, which is no row's.
-pub fn word_at(strip: &[u8], at: usize, k: usize) -> u64
-    requires { (at + k ≤ length strip.now) × (k ≤ 9) }
-    ensures { result ≡ seen k (take k (drop at strip.now)) }
+// The word of five elements, every second one of nine.
+pub fn five_of(elements: &[u8]) -> u64
+    requires { length elements.now ≡ 9 }
+    ensures { result ≡ low (every_second elements.now) }
 {
-    if k < 9 {
-        several(strip, at, k)
-    } else {
-        nine(strip, at)
-    }
-}
-
-// Five elements, every second one of nine.
-pub fn five_at(strip: &[u8], at: usize) -> u64
-    requires { at + 9 ≤ length strip.now }
-    ensures { result ≡ low (every_second (take 9 (drop at strip.now))) }
-{
-    strip[at] as u64
-        + strip[at + 2] as u64 * 0x100
-        + strip[at + 4] as u64 * 0x10000
-        + strip[at + 6] as u64 * 0x1000000
-        + strip[at + 8] as u64 * 0x100000000
+    u64::from_le_bytes([
+        elements[0],
+        elements[2],
+        elements[4],
+        elements[6],
+        elements[8],
+        0,
+        0,
+        0,
+    ])
 }

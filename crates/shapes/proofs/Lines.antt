@@ -6,12 +6,8 @@
 --               them there is nothing on either side
 --
 -- Assumes nothing.
-use mathlib.Core.Path.{◌≡◌, refl, sym}
-use mathlib.Core.Bool.{Bool, true, ◌&&◌}
-use mathlib.Core.List.{List, [], ◌∷◌, map}
-use Prim.Native.Nat.{ℕ, zero, suc, ◌*◌, zero-le}
-use lib.ListN.{length, get_or-map}
-use borrow.Author.Tests.{eqb-true, le-leb}
+use Rattle.std.proofs.Common.{◌≡◌, refl, sym, Bool, true, ◌&&◌, List, [], ◌∷◌, map, ℕ, zero, suc, ◌*◌, zero-le, length, eqb-true, le-leb}
+use lib.ListN.{get_or-map}
 use Rattle.laws.proofs.Finite.{both_left, both_right}
 use Rattle.symbologies.specs.Parts.{Part}
 use Rattle.shapes.specs.declared.parts.Count.{Count}

@@ -1,7 +1,7 @@
 -- One answer for each input of this crate's public functions. A part may be described in more than one way, since of a mark that is none
 -- no word is asked: all that `part_of` may answer means the same part.
 -- Assumes nothing.
-use mathlib.Core.Path.{◌≡◌}
+use Rattle.std.proofs.Common.{◌≡◌}
 use borrow.Fn.Kinds.{Dens, res_t, ended_of}
 use contract.Lifetimes.{Lfts}
 use denote.Triple.Clauses.{AtExit}

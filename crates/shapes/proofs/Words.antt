@@ -5,16 +5,7 @@
 --   row-length      a row of three to nine elements has so many; pair-length, a pair ten
 --
 -- Assumes nothing.
-use mathlib.Core.Path.{◌≡◌, refl, ap, ◌∙◌}
-use mathlib.Core.Bool.{Bool, true, false}
-use mathlib.Core.List.{List, [], ◌∷◌, ◌++◌}
-use Prim.Native.Nat.{ℕ, zero, suc, ◌+◌, ◌*◌, ◌/◌, ◌%◌, ◌^◌, ◌≤◌}
-use native.Mathlib.Omega.{arith}
-use native.Mathlib.Nat.{suc-add, zero-add}
-use lib.Dec.{ltb}
-use lib.ListN.{length}
-use lib.Pow.{shr-shr}
-use borrow.Author.Tests.{ltb-false}
+use Rattle.std.proofs.Common.{◌≡◌, refl, ap, ◌∙◌, Bool, true, false, List, [], ◌∷◌, ◌++◌, ℕ, zero, suc, ◌+◌, ◌*◌, ◌/◌, ◌%◌, ◌^◌, ◌≤◌, arith, suc-add, zero-add, ltb, length, shr-shr, ltb-false}
 use Rattle.laws.specs.Search.{pick}
 use Rattle.tables.specs.Bits.{weave}
 use Rattle.shapes.specs.Sets.{bytes, top, row_of}

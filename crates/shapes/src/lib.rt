@@ -1,6 +1,6 @@
 // What a strip is made of, for the code: the parts of each symbology, and its rows as words. Drawing and reading both go by it.
 //
-//   parts    two or three parts to a symbology, a line each, as specs/Symbologies.antt of crate symbologies has it: a mark and then a
+//   parts    two or three parts to a symbology, an arm each, as specs/Symbologies.antt of crate symbologies has it: a mark and then a
 //            number of like units
 //   sets     the rows that the units show, as sets of ten words, indexed by set and digit
 //

@@ -1,4 +1,4 @@
-// The parts of each symbology's strip, a line each (document 01, "Two-width strips", "EAN and UPC strips"; crate symbologies,
+// The parts of each symbology's strip, an arm each (document 01, "Two-width strips", "EAN and UPC strips"; crate symbologies,
 // specs/Parts.antt). Constants and one `match`, so that a caller's loop over parts costs nothing.
 ghost use Rattle.std.specs.Prelude.{◌≡◌, true, false, length};
 ghost use Rattle.symbologies.specs.Symbologies.{symbology_of};
@@ -6,6 +6,7 @@ ghost use Rattle.shapes.specs.Sets.{sets_of};
 ghost use Rattle.shapes.specs.Described.{count_in, closed, Describes};
 
 // A start, a stop, a guard or the centre: elements of one pattern, behind a parting space or not. One of no elements is none.
+// Stays without an `Option`: `mark_in` (specs/Described.antt) says that a mark of no elements draws nothing, and `part_of` may answer any of them.
 #[derive(Clone, Copy)]
 pub struct Mark {
     pub gap: bool,
@@ -15,6 +16,7 @@ pub struct Mark {
 
 // A character or a pair: one of so many rows, from a set on, behind a parting space or not. Ten elements are a pair, woven of the rows of
 // its two digits.
+// Stays a number for a pair, ten elements: `row_in` (specs/Described.antt) and `sought_in` tell a pair by it.
 #[derive(Clone, Copy)]
 pub struct Unit {
     pub gap: bool,
@@ -46,47 +48,42 @@ const GUARD: u64 = 0x010101;
 
 const CENTRE: u64 = 0x0101010101;
 
-// A mark by itself, and one behind a parting space.
-fn bare(elements: usize, word: u64) -> Mark
-    ensures { result ≡ record { gap = false; elements = elements; word = word } }
-{
-    Mark {
-        gap: false,
-        elements,
-        word,
+impl Mark {
+    fn new(elements: usize, word: u64) -> Mark
+        ensures { result ≡ record { gap = false; elements = elements; word = word } }
+    {
+        Mark {
+            gap: false,
+            elements,
+            word,
+        }
+    }
+
+    // The mark behind a parting space.
+    fn parted(self) -> Mark
+        ensures { result ≡ record { gap = true; elements = self.elements; word = self.word } }
+    {
+        Mark { gap: true, ..self }
     }
 }
 
-fn parted(elements: usize, word: u64) -> Mark
-    ensures { result ≡ record { gap = true; elements = elements; word = word } }
-{
-    Mark {
-        gap: true,
-        elements,
-        word,
+impl Unit {
+    fn new(elements: usize, set: usize, size: usize) -> Unit
+        ensures { result ≡ record { gap = false; elements = elements; set = set; size = size } }
+    {
+        Unit {
+            gap: false,
+            elements,
+            set,
+            size,
+        }
     }
-}
 
-// A unit by itself, and one behind a parting space.
-fn one(elements: usize, set: usize, size: usize) -> Unit
-    ensures { result ≡ record { gap = false; elements = elements; set = set; size = size } }
-{
-    Unit {
-        gap: false,
-        elements,
-        set,
-        size,
-    }
-}
-
-fn spaced(elements: usize, set: usize, size: usize) -> Unit
-    ensures { result ≡ record { gap = true; elements = elements; set = set; size = size } }
-{
-    Unit {
-        gap: true,
-        elements,
-        set,
-        size,
+    // The unit behind a parting space.
+    fn parted(self) -> Unit
+        ensures { result ≡ record { gap = true; elements = self.elements; set = self.set; size = self.size } }
+    {
+        Unit { gap: true, ..self }
     }
 }
 
@@ -97,54 +94,55 @@ fn line(mark: Mark, count: Count, unit: Unit) -> Part
 }
 
 // A mark with nothing behind it.
+// Stays a count of no units and no `None`: `closed` and `is_none` (specs/Described.antt) speak of it so, and a caller's loop over units asks nothing.
 fn close(mark: Mark) -> Part
     ensures { result ≡ closed mark }
 {
-    line(mark, Count::Of(0), one(0, 0, 0))
+    line(mark, Count::Of(0), Unit::new(0, 0, 0))
 }
 
-// Part i of a symbology, from 0 on, by three times the symbology and i; nothing behind its last, and so it is for any number that is no
-// symbology.
+// Part i of a symbology, from 0 on; nothing behind its last, and so it is for any number that is no symbology.
 pub fn part_of(symbology: u8, i: usize) -> Part
     ensures { Describes (sets_of symbology) (symbology_of symbology).parts i result }
 {
-    if i > 2 {
-        return close(bare(0, 0));
-    }
-    match 3 * symbology as usize + i {
+    match (symbology, i) {
         // Code 39, and the same with full ASCII
-        3 => line(bare(9, STAR), Count::All, spaced(9, 0, 43)),
-        4 => close(parted(9, STAR)),
-        6 => line(bare(9, STAR), Count::All, spaced(9, 0, 43)),
-        7 => close(parted(9, STAR)),
+        (1 | 2, 0) => line(Mark::new(9, STAR), Count::All, Unit::new(9, 0, 43).parted()),
+        (1 | 2, 1) => close(Mark::new(9, STAR).parted()),
         // Codabar: the letters start and stop
-        9 => line(bare(0, 0), Count::Of(1), one(7, 2, 4)),
-        10 => line(bare(0, 0), Count::Inner, spaced(7, 0, 16)),
-        11 => line(bare(0, 0), Count::Of(1), spaced(7, 2, 4)),
+        (3, 0) => line(Mark::new(0, 0), Count::Of(1), Unit::new(7, 2, 4)),
+        (3, 1) => line(Mark::new(0, 0), Count::Inner, Unit::new(7, 0, 16).parted()),
+        (3, 2) => line(Mark::new(0, 0), Count::Of(1), Unit::new(7, 2, 4).parted()),
         // Industrial
-        12 => line(bare(5, 0x0101030103), Count::All, spaced(9, 0, 10)),
-        13 => close(parted(5, 0x0301010103)),
+        (4, 0) => line(
+            Mark::new(5, 0x0101030103),
+            Count::All,
+            Unit::new(9, 0, 10).parted(),
+        ),
+        (4, 1) => close(Mark::new(5, 0x0301010103).parted()),
         // Interleaved
-        15 => line(bare(4, 0x01010101), Count::Half, one(10, 0, 100)),
-        16 => close(bare(3, 0x010103)),
+        (5, 0) => line(Mark::new(4, 0x01010101), Count::Half, Unit::new(10, 0, 100)),
+        (5, 1) => close(Mark::new(3, 0x010103)),
         // Matrix
-        18 => line(bare(5, 0x0101010103), Count::All, spaced(5, 0, 10)),
-        19 => close(parted(5, 0x0101010103)),
+        (6, 0) => line(
+            Mark::new(5, 0x0101010103),
+            Count::All,
+            Unit::new(5, 0, 10).parted(),
+        ),
+        (6, 1) => close(Mark::new(5, 0x0101010103).parted()),
         // EAN-13, EAN-8, UPC-A
-        21 => line(bare(3, GUARD), Count::Of(6), one(4, 0, 20)),
-        22 => line(bare(5, CENTRE), Count::Of(6), one(4, 2, 10)),
-        23 => close(bare(3, GUARD)),
-        24 => line(bare(3, GUARD), Count::Of(4), one(4, 0, 10)),
-        25 => line(bare(5, CENTRE), Count::Of(4), one(4, 2, 10)),
-        26 => close(bare(3, GUARD)),
-        27 => line(bare(3, GUARD), Count::Of(6), one(4, 0, 10)),
-        28 => line(bare(5, CENTRE), Count::Of(6), one(4, 2, 10)),
-        29 => close(bare(3, GUARD)),
-        _ => close(bare(0, 0)),
+        (7, 0) => line(Mark::new(3, GUARD), Count::Of(6), Unit::new(4, 0, 20)),
+        (8, 0) => line(Mark::new(3, GUARD), Count::Of(4), Unit::new(4, 0, 10)),
+        (9, 0) => line(Mark::new(3, GUARD), Count::Of(6), Unit::new(4, 0, 10)),
+        (7 | 9, 1) => line(Mark::new(5, CENTRE), Count::Of(6), Unit::new(4, 2, 10)),
+        (8, 1) => line(Mark::new(5, CENTRE), Count::Of(4), Unit::new(4, 2, 10)),
+        (7 | 8 | 9, 2) => close(Mark::new(3, GUARD)),
+        _ => close(Mark::new(0, 0)),
     }
 }
 
 // How many parts a symbology has.
+// Stays a number, 0 for no symbology: its promise is the number of parts, and no symbology has none.
 pub fn part_count(symbology: u8) -> usize
     ensures { result ≡ length (symbology_of symbology).parts }
 {
@@ -162,7 +160,7 @@ pub fn count_in(count: Count, n: usize) -> usize
     match count {
         Count::Of(k) => k,
         Count::All => n,
-        Count::Inner => { if n < 2 { 0 } else { n - 2 } }
+        Count::Inner => n.saturating_sub(2),
         Count::Half => n / 2,
     }
 }

@@ -151,6 +151,7 @@ const EAN: [[u64; 10]; 3] = [
     ],
 ];
 
+// Stays as five functions: each is public under its own name, and their arrays differ in size.
 pub fn code39() -> [[u64; 10]; 5]
     ensures { result ≡ sets39 }
 {

@@ -3,8 +3,7 @@
 --   bench-holds   every row of specs/Bench.antt holds
 --
 -- Assumes nothing.
-use mathlib.Core.Path.{◌≡◌, refl}
-use mathlib.Core.Bool.{true}
+use Rattle.std.proofs.Common.{◌≡◌, refl, true}
 use Rattle.laws.specs.Search.{index_in}
 use Rattle.tables.specs.Alphabet.{value_of, byte_of, rows_of}
 use Rattle.tables.specs.FullAscii.{drawing, ranges}

@@ -4,18 +4,12 @@
 --   laid_out        a row's strip, or 8
 --
 -- Assumes nothing.
-use mathlib.Core.Path.{◌≡◌, refl, sym, ap, ◌∙◌}
-use mathlib.Core.Bool.{Bool, true, false}
-use mathlib.Core.List.{List}
-use Prim.Native.Nat.{ℕ, ◌≤◌}
-use native.Mathlib.Omega.{arith}
-use lib.Dec.{ltb}
-use lib.ListN.{length, take}
-use borrow.Author.Tests.{le-leb}
+use Rattle.std.proofs.Common.{Result, Ok, Err, ◌≡◌, refl, sym, ap, ◌∙◌, Bool, true, false, List, ℕ, ◌≤◌, arith, ltb, length, take, le-leb}
 use Rattle.laws.specs.Search.{pick}
+use Rattle.words.specs.declared.Elements.{Elements}
+use Rattle.words.specs.declared.Modules.{Modules}
 use Rattle.words.specs.declared.Answer.{Answer}
 use Rattle.words.specs.Order.{Outcome, gives, turned}
-use Rattle.symbologies.specs.declared.judging.Verdict.TheVariants.{Given as given-row, Turned}
 use Rattle.symbologies.specs.Sizes.{places}
 use Rattle.symbologies.specs.Rows.{row_of_field}
 use Rattle.symbologies.specs.Strips.{elements_of, ready}
@@ -23,20 +17,19 @@ use Rattle.symbologies.specs.Told.{Rowed, row_in, told}
 use Rattle.symbologies.proofs.Held.{take-pad}
 use Rattle.symbologies.proofs.Ready.{drawn-ready, ready-counted}
 use Rattle.symbologies.proofs.Counted.{counted-few}
-use Rattle.units.specs.declared.Laid.{Laid}
 use Rattle.units.specs.Laid.{chars_of, laid_of, laid_in}
 use Rattle.strip.specs.Drawing.{Call, draw_field, answer_of}
 use Rattle.strip.proofs.Fields.{field-data}
 use Rattle.strip.proofs.Requests.{draw-given, draw-turned}
 
-pub turned-away : (s m count : ℕ) (field out : List ℕ) (x : Rowed) (a : Answer) → x ≡ told (row_of_field s m count field) → x.verdict ≡ Turned a
+pub turned-away : (s m count : ℕ) (field out : List ℕ) (x : Rowed) (a : Answer) → x ≡ told (row_of_field s m count field) → x.verdict ≡ Err a
     → (a ≡ (draw_field s m count field out).answer) × (out ≡ (draw_field s m count field out).buffer)
 turned-away s m count field out x a e v = go (row_of_field s m count field) refl e
   where
     go : (z : Outcome) → row_of_field s m count field ≡ z → x ≡ told z → (a ≡ (draw_field s m count field out).answer) × (out ≡ (draw_field s m count field out).buffer)
-    go (gives r) w q = absurd (let u : given-row ≡ Turned a = sym (ap (λ (y : Rowed). y.verdict) q) ∙ v in let z : ◌≡◌ {A = ℕ} 0 1 = cc in omega arith)
+    go (gives r) w q = absurd (let u : Ok (tt {0}) ≡ Err a = sym (ap (λ (y : Rowed). y.verdict) q) ∙ v in let z : ◌≡◌ {A = ℕ} 0 1 = cc in omega arith)
     go (turned b) w q =
-        let u : Turned b ≡ Turned a = sym (ap (λ (y : Rowed). y.verdict) q) ∙ v in
+        let u : Err b ≡ Err a = sym (ap (λ (y : Rowed). y.verdict) q) ∙ v in
         let c : b ≡ a = cc in
         rw (draw-turned s m count field out b w) (sym c, refl)
 
@@ -44,7 +37,7 @@ turned-away s m count field out x a e v = go (row_of_field s m count field) refl
 chars-of : (r : List ℕ) → length r ≤ places → chars_of (row_in r) ≡ r
 chars-of r h = rw (le-leb (length r) places h) (take-pad places r h)
 
-pick-answer : (b : Bool) (x y : Laid) (p q : Call) → answer_of x ≡ p.answer → answer_of y ≡ q.answer → answer_of (pick b x y) ≡ (pick b p q).answer
+pick-answer : (b : Bool) (x y : Result (Elements × Modules) Answer) (p q : Call) → answer_of x ≡ p.answer → answer_of y ≡ q.answer → answer_of (pick b x y) ≡ (pick b p q).answer
 pick-answer true x y p q e f = e
 pick-answer false x y p q e f = f
 
@@ -62,7 +55,7 @@ module _ (s m count : ℕ) (field out r : List ℕ) (e : row_of_field s m count 
   same-buffer = rw (draw-given s m count field out r e) (pick-buffer (ltb (length out) (elements_of s (length r))) _ _ _ _ refl refl)
 
 -- such a row is ready
-module _ (s m count : ℕ) (field : List ℕ) (x : Rowed) (e : x ≡ told (row_of_field s m count field)) (v : x.verdict ≡ given-row) where
+module _ (s m count : ℕ) (field : List ℕ) (x : Rowed) (e : x ≡ told (row_of_field s m count field)) (v : x.verdict ≡ Ok (tt {0})) where
   given-ready : (r : List ℕ) → row_of_field s m count field ≡ gives r → x ≡ told (gives r) → (chars_of x.row ≡ r) × (ready s r ≡ true)
   given-ready r w q =
       let h : ready s r ≡ true = drawn-ready s m (take count field) r (field-data s m count field r w) in
@@ -70,7 +63,7 @@ module _ (s m count : ℕ) (field : List ℕ) (x : Rowed) (e : x ≡ told (row_o
 
   not-turned : (b : Answer) → x ≡ told (turned b) → ⊥
   not-turned b q =
-      let u : Turned b ≡ given-row = sym (ap (λ (y : Rowed). y.verdict) q) ∙ v in
+      let u : Err b ≡ Ok (tt {0}) = sym (ap (λ (y : Rowed). y.verdict) q) ∙ v in
       let z : ◌≡◌ {A = ℕ} 0 1 = cc in
       omega arith
 
@@ -81,14 +74,14 @@ module _ (s m count : ℕ) (field : List ℕ) (x : Rowed) (e : x ≡ told (row_o
       go (turned b) w q = absurd (not-turned b q)
       go (gives r) w q = let c = given-ready r w q in rw c.0 c.1
 
-  pub laid_out : (out next : List ℕ) (a : Answer) → a ≡ answer_of (laid_of s (chars_of x.row) (length out)) → next ≡ laid_in s (chars_of x.row) out
-      → (a ≡ (draw_field s m count field out).answer) × (next ≡ (draw_field s m count field out).buffer)
+  pub laid_out : (out next : List ℕ) (a : Result (Elements × Modules) Answer) → a ≡ laid_of s (chars_of x.row) (length out) → next ≡ laid_in s (chars_of x.row) out
+      → (answer_of a ≡ (draw_field s m count field out).answer) × (next ≡ (draw_field s m count field out).buffer)
   laid_out out next a f g = go (row_of_field s m count field) refl e
     where
-      go : (z : Outcome) → row_of_field s m count field ≡ z → x ≡ told z → (a ≡ (draw_field s m count field out).answer) × (next ≡ (draw_field s m count field out).buffer)
+      go : (z : Outcome) → row_of_field s m count field ≡ z → x ≡ told z → (answer_of a ≡ (draw_field s m count field out).answer) × (next ≡ (draw_field s m count field out).buffer)
       go (turned b) w q = absurd (not-turned b q)
       go (gives r) w q =
           let c = given-ready r w q in (
-            f ∙ ap (λ (u : List ℕ). answer_of (laid_of s u (length out))) c.0 ∙ same_answer s m count field out r w,
+            ap answer_of f ∙ ap (λ (u : List ℕ). answer_of (laid_of s u (length out))) c.0 ∙ same_answer s m count field out r w,
             g ∙ ap (λ (u : List ℕ). laid_in s u out) c.0 ∙ same-buffer s m count field out r w,
           )

@@ -18,12 +18,7 @@
 --   ticket 2    digits-swapped; code39-swapped, check-swapped; swapped-handed-back, swapped-refused; full-swapped, full-check-swapped
 --
 -- Assumes nothing.
-use mathlib.Core.Path.{◌≡◌, refl, ap, ◌∙◌}
-use mathlib.Core.Logic.{◌≢◌, ◌↔◌, ◌⊎◌}
-use mathlib.Core.List.{List, ◌++◌}
-use Prim.Native.Nat.{ℕ, suc, ◌-◌, ◌<◌, ◌≤◌}
-use native.Mathlib.Omega.{arith}
-use lib.ListN.{length, get_or, take, drop, set}
+use Rattle.std.proofs.Common.{◌≡◌, refl, ap, ◌∙◌, ◌≢◌, ◌↔◌, ◌⊎◌, List, ◌++◌, ℕ, suc, ◌-◌, ◌<◌, ◌≤◌, arith, length, get_or, take, drop, set}
 use lib.Seq.{take-length}
 use borrow.Fn.Kinds.{Dens, res_t, ended_of, Out}
 use contract.Lifetimes.{Lfts}

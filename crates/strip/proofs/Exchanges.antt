@@ -7,16 +7,9 @@
 --   full-before                               full ASCII, of which the ticket does not speak: before the check its check sees nothing either
 --
 -- Assumes nothing.
-use mathlib.Core.Path.{◌≡◌, refl, sym, ap, ◌∙◌}
+use Rattle.std.proofs.Common.{◌≡◌, refl, sym, ap, ◌∙◌, ◌≢◌, ◌↔◌, ◌⊎◌, inl, inr, Bool, true, false, not, List, ◌++◌, ℕ, suc, ◌-◌, ◌<◌, ◌≤◌, arith, length, get_or, take, drop, length-take-le, le-ltb, ne_eqb}
 use mathlib.Core.Logic.Iff
-use mathlib.Core.Logic.{◌≢◌, ◌↔◌, ◌⊎◌, inl, inr}
-use mathlib.Core.Bool.{Bool, true, false, not}
-use mathlib.Core.List.{List, ◌++◌}
-use Prim.Native.Nat.{ℕ, suc, ◌-◌, ◌<◌, ◌≤◌}
-use native.Mathlib.Omega.{arith}
-use lib.ListN.{length, get_or, take, drop, length-map}
-use lib.Seq.{length-take-le}
-use borrow.Author.Tests.{le-ltb, ne_eqb}
+use lib.ListN.{length-map}
 use Rattle.laws.specs.Search.{pick}
 use Rattle.laws.specs.Elements.{sum}
 use Rattle.laws.specs.Units.{Reading, found, stopped}

@@ -3,15 +3,8 @@
 --   field-data    so its row is that of the data
 --
 -- Assumes nothing.
-use mathlib.Core.Path.{◌≡◌, ◌∙◌}
-use mathlib.Core.Bool.{true, ◌&&◌}
-use mathlib.Core.List.{List}
-use Prim.Native.Nat.{ℕ}
-use native.Mathlib.Omega.{arith}
-use lib.Dec.{leb}
-use lib.ListN.{length, take}
-use lib.Seq.{length-take-le, take_all}
-use borrow.Author.Tests.{leb-true, le-leb, not-false}
+use Rattle.std.proofs.Common.{◌≡◌, ◌∙◌, true, ◌&&◌, List, ℕ, arith, leb, length, take, length-take-le, take_all, leb-true, le-leb}
+use borrow.Author.Tests.{not-false}
 use Rattle.laws.proofs.Finite.{both_left, both_right}
 use Rattle.words.specs.Order.{gives, turned}
 use Rattle.words.proofs.Order.{None, none-on, given}

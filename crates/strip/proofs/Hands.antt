@@ -1,34 +1,27 @@
 -- Reading's returns: an answer handed on, or a row's data handed back.
 --
+--   with_total                 the bytes handed back, with a total
 --   handed-on                  12, 7 or 8, or the data and the strip's modules
---   told-long                  the lent places are as many afterwards
 --   read-away, read-over       1, 2, 9, 10 or 11 handed on; what became of the row that was seen
 --
 -- Assumes nothing.
-use mathlib.Core.Path.{◌≡◌, refl, sym, ap, ◌∙◌}
-use mathlib.Core.Bool.{Bool, true, false}
-use mathlib.Core.List.{List, []}
-use Prim.Native.Nat.{ℕ, ◌≤◌}
-use native.Mathlib.Omega.{arith}
-use lib.Dec.{ltb}
-use lib.ListN.{length}
-use borrow.Author.Tests.{le-leb}
+use Rattle.std.proofs.Common.{Result, Ok, Err, ◌≡◌, refl, sym, ap, ◌∙◌, Bool, true, false, List, ℕ, ◌≤◌, arith, ltb, length, le-leb}
 use Rattle.laws.specs.Search.{pick}
 use Rattle.laws.specs.Elements.{sum}
+use Rattle.words.specs.declared.Bytes.{Bytes}
+use Rattle.words.specs.declared.Modules.{Modules}
 use Rattle.words.specs.declared.Answer.{Answer}
-use Rattle.words.specs.Order.{Outcome, gives, turned}
+use Rattle.words.specs.Order.{Outcome, gives, turned, module_count}
 use Rattle.words.proofs.Order.{first-turned}
-use Rattle.symbologies.specs.declared.judging.Verdict.TheVariants.{Given as given-row, Turned}
 use Rattle.symbologies.specs.Sizes.{places}
 use Rattle.symbologies.specs.Symbologies.{symbology_of}
 use Rattle.symbologies.specs.Rows.{data_read, data_checks, data_of}
 use Rattle.symbologies.specs.Strips.{row_read, seen_checks, row_seen}
 use Rattle.symbologies.specs.Told.{Rowed, row_in, told, modules_within}
-use Rattle.symbologies.proofs.Held.{take-pad, row-long}
+use Rattle.symbologies.proofs.Held.{take-pad}
 use Rattle.symbologies.proofs.Ready.{ready-counted}
 use Rattle.symbologies.proofs.Counted.{counted-few}
 use Rattle.symbologies.proofs.Exact.{seen-drawn, seen-modules}
-use Rattle.data.specs.declared.reading.Handed.{Handed}
 use Rattle.data.specs.Held.{data_of_row, handed_of, written}
 use Rattle.strip.specs.Drawing.{Call}
 use Rattle.strip.specs.Reading.{data_seen, read_strip, answer_for}
@@ -36,7 +29,13 @@ use Rattle.strip.proofs.Requests.{seen_as, read-given, read-turned}
 
 -- ---- the data of a row
 
-pick-answer : (b : Bool) (x y : Handed) (total : ℕ) (p q : Call) → answer_for x total ≡ p.answer → answer_for y total ≡ q.answer → answer_for (pick b x y) total ≡ (pick b p q).answer
+-- the bytes handed back, with a total
+abbrev pub with_total : Result Bytes Answer → ℕ → Result (Bytes × Modules) Answer
+with_total (Ok n) total = Ok (n, module_count total)
+with_total (Err a) total = Err a
+
+pick-answer : (b : Bool) (x y : Result Bytes Answer) (total : ℕ) (p q : Call) → answer_for (with_total x total) ≡ p.answer → answer_for (with_total y total) ≡ q.answer
+    → answer_for (with_total (pick b x y) total) ≡ (pick b p q).answer
 pick-answer true x y total p q e f = e
 pick-answer false x y total p q e f = f
 
@@ -45,7 +44,7 @@ pick-buffer true x y p q e f = e
 pick-buffer false x y p q e f = f
 
 handed-on : (s m : ℕ) (t out : List ℕ) (o : Outcome) → data_seen s m t ≡ o
-    → (answer_for (handed_of o (length out)) (sum t) ≡ (read_strip s m t out).answer) × (written o out ≡ (read_strip s m t out).buffer)
+    → (answer_for (with_total (handed_of o (length out)) (sum t)) ≡ (read_strip s m t out).answer) × (written o out ≡ (read_strip s m t out).buffer)
 handed-on s m t out (gives d) e =
     rw (read-given s m t out d e) (pick-answer (ltb (length out) (length d)) _ _ (sum t) _ _ refl refl, pick-buffer (ltb (length out) (length d)) _ _ _ _ refl refl)
 handed-on s m t out (turned a) e = rw (read-turned s m t out a e) (refl, refl)
@@ -67,30 +66,26 @@ held-modules : (s m : ℕ) (t r : List ℕ) → row_seen s m t ≡ gives r → m
 unfolding modules_within
 held-modules s m t r e = let h : length r ≤ places = seen_few s m t r e in rw (le-leb (length r) places h, take-pad places r h) (seen-modules s m t r e)
 
-pub told-long : (x : Rowed) (o : Outcome) → x ≡ told o → length x.row.codes ≡ places
-told-long x (gives r) e = row-long x.row r (ap (λ (y : Rowed). y.row) e)
-told-long x (turned a) e = row-long x.row [] (ap (λ (y : Rowed). y.row) e)
-
 module _ (s m : ℕ) (t out : List ℕ) (x : Rowed) (e : x ≡ told (row_seen s m t)) where
-  pub read-away : (a : Answer) → x.verdict ≡ Turned a → (a ≡ (read_strip s m t out).answer) × (out ≡ (read_strip s m t out).buffer)
+  pub read-away : (a : Answer) → x.verdict ≡ Err a → (a ≡ (read_strip s m t out).answer) × (out ≡ (read_strip s m t out).buffer)
   read-away a v = go (row_seen s m t) refl e
     where
       go : (z : Outcome) → row_seen s m t ≡ z → x ≡ told z → (a ≡ (read_strip s m t out).answer) × (out ≡ (read_strip s m t out).buffer)
-      go (gives r) w q = absurd (let u : given-row ≡ Turned a = sym (ap (λ (y : Rowed). y.verdict) q) ∙ v in let z : ◌≡◌ {A = ℕ} 0 1 = cc in omega arith)
+      go (gives r) w q = absurd (let u : Ok (tt {0}) ≡ Err a = sym (ap (λ (y : Rowed). y.verdict) q) ∙ v in let z : ◌≡◌ {A = ℕ} 0 1 = cc in omega arith)
       go (turned b) w q =
-          let u : Turned b ≡ Turned a = sym (ap (λ (y : Rowed). y.verdict) q) ∙ v in
+          let u : Err b ≡ Err a = sym (ap (λ (y : Rowed). y.verdict) q) ∙ v in
           let c : b ≡ a = cc in
           rw (read-turned s m t out b (seen-away s m t b w)) (sym c, refl)
 
-  pub read-over : x.verdict ≡ given-row → (a : Answer) (next : List ℕ) → a ≡ answer_for (handed_of (data_of_row s m x.row) (length out)) (modules_within s x.row)
-      → next ≡ written (data_of_row s m x.row) out → (a ≡ (read_strip s m t out).answer) × (next ≡ (read_strip s m t out).buffer)
-  read-over v a next f g = go (row_seen s m t) refl e
+  pub read-over : x.verdict ≡ Ok (tt {0}) → (h : Result Bytes Answer) (next : List ℕ) → h ≡ handed_of (data_of_row s m x.row) (length out)
+      → next ≡ written (data_of_row s m x.row) out → (answer_for (with_total h (modules_within s x.row)) ≡ (read_strip s m t out).answer) × (next ≡ (read_strip s m t out).buffer)
+  read-over v h next f g = go (row_seen s m t) refl e
     where
-      go : (z : Outcome) → row_seen s m t ≡ z → x ≡ told z → (a ≡ (read_strip s m t out).answer) × (next ≡ (read_strip s m t out).buffer)
-      go (turned b) w q = absurd (let u : Turned b ≡ given-row = sym (ap (λ (y : Rowed). y.verdict) q) ∙ v in let z : ◌≡◌ {A = ℕ} 0 1 = cc in omega arith)
+      go : (z : Outcome) → row_seen s m t ≡ z → x ≡ told z → (answer_for (with_total h (modules_within s x.row)) ≡ (read_strip s m t out).answer) × (next ≡ (read_strip s m t out).buffer)
+      go (turned b) w q = absurd (let u : Err b ≡ Ok (tt {0}) = sym (ap (λ (y : Rowed). y.verdict) q) ∙ v in let z : ◌≡◌ {A = ℕ} 0 1 = cc in omega arith)
       go (gives r) w q =
           let k : x.row ≡ row_in r = ap (λ (y : Rowed). y.row) q in
           let d : data_of_row s m x.row ≡ data_seen s m t = ap (data_of_row s m) k ∙ held-data s m r (seen_few s m t r w) ∙ sym (seen_as s m t r w) in
           let n : modules_within s x.row ≡ sum t = ap (modules_within s) k ∙ held-modules s m t r w in
-          let h = handed-on s m t out (data_seen s m t) refl in
-          ((rw (d, n) at f) ∙ h.0, (rw d at g) ∙ h.1)
+          let o = handed-on s m t out (data_seen s m t) refl in
+          (rw (f, d, n) o.0, (rw d at g) ∙ o.1)

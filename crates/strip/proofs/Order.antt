@@ -8,13 +8,7 @@
 --   kept                          and every other leaves the buffer as it was
 --
 -- Assumes nothing.
-use mathlib.Core.Path.{◌≡◌, refl}
-use mathlib.Core.Logic.{◌≢◌}
-use mathlib.Core.Bool.{Bool, true, false}
-use mathlib.Core.List.{List, [], ◌∷◌, map}
-use Prim.Native.Nat.{ℕ}
-use native.Mathlib.Omega.{arith}
-use lib.ListN.{take}
+use Rattle.std.proofs.Common.{◌≡◌, refl, ◌≢◌, Bool, true, false, List, [], ◌∷◌, map, ℕ, arith, take}
 use Rattle.laws.specs.Search.{pick}
 use Rattle.words.specs.Said.{said_of}
 use Rattle.words.specs.Order.{Check, first_of}

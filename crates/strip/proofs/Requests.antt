@@ -10,14 +10,7 @@
 --   draw-keeps, data-keeps, read_keeps                       demand 1
 --
 -- Assumes nothing.
-use mathlib.Core.Path.{◌≡◌, refl, sym, ap, ◌∙◌}
-use mathlib.Core.Logic.{◌≢◌, ◌↔◌}
-use mathlib.Core.Bool.{true}
-use mathlib.Core.List.{List, [], ◌∷◌}
-use Prim.Native.Nat.{ℕ, ◌<◌, ◌≤◌}
-use lib.ListN.{length, get_or, take, drop, set, length-set}
-use lib.Seq.{take_at}
-use borrow.Author.Tests.{le-ltb, lt-ltb}
+use Rattle.std.proofs.Common.{◌≡◌, refl, sym, ap, ◌∙◌, ◌≢◌, ◌↔◌, true, List, [], ◌∷◌, ℕ, ◌<◌, ◌≤◌, length, get_or, take, drop, set, length-set, take_at, le-ltb, lt-ltb}
 use Rattle.laws.specs.Elements.{sum}
 use Rattle.laws.specs.Units.{Fits}
 use Rattle.laws.proofs.Spelling.{Below, below_set}

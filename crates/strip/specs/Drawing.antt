@@ -8,15 +8,15 @@
 --   draw_data        plain data: a field of just their length, so that 13 can't come
 --   drawn_answer     the answer of number 0
 --   answer_of        how an answer stands in the words that the crates share
-use Rattle.std.specs.Prelude.{List, [], ◌∷◌, ◌++◌, ℕ, ltb, length, take, drop}
+use Rattle.std.specs.Prelude.{List, [], ◌∷◌, ◌++◌, Result, Ok, Err, ℕ, ltb, length, take, drop}
+use Rattle.words.specs.declared.Elements.{Elements}
+use Rattle.words.specs.declared.Modules.{Modules}
 use Rattle.words.specs.declared.Answer.{Answer}
 use Rattle.words.specs.declared.Answer.TheVariants.{Drawn, ShortForStrip}
 use Rattle.words.specs.Order.{Check, check, first_of, element_count, module_count}
 use Rattle.symbologies.specs.Symbologies.{symbology_of}
 use Rattle.symbologies.specs.Rows.{row_drawn, row_checks}
 use Rattle.symbologies.specs.Strips.{elements_of, modules_of, strip_of}
-use Rattle.units.specs.declared.Laid.{Laid}
-use Rattle.units.specs.declared.Laid.TheVariants.{Strip, Short}
 
 pub record Call : Type 0 where
   pub answer : Answer
@@ -50,6 +50,6 @@ unfoldable pub drawn_answer : ℕ → ℕ → List ℕ → Answer
 drawn_answer s m d =
     Drawn (element_count (elements_of s (length (row_drawn (symbology_of s) m d)))) (module_count (modules_of s (row_drawn (symbology_of s) m d)))
 
-abbrev pub answer_of : Laid → Answer
-answer_of (Strip e m) = Drawn e m
-answer_of (Short e) = ShortForStrip e
+abbrev pub answer_of : Result (Elements × Modules) Answer → Answer
+answer_of (Ok laid) = Drawn laid.0 laid.1
+answer_of (Err a) = a

@@ -7,16 +7,16 @@
 --   read_strip       the first of the checks that applies, and the data where none does
 --   handed_answer    the answer of number 0
 --   answer_for       how an answer stands in the words that the crates share
-use Rattle.std.specs.Prelude.{List, [], ◌∷◌, ◌++◌, ℕ, ltb, length, drop}
+use Rattle.std.specs.Prelude.{List, [], ◌∷◌, ◌++◌, Result, Ok, Err, ℕ, ltb, length, drop}
 use Rattle.laws.specs.Elements.{sum}
+use Rattle.words.specs.declared.Bytes.{Bytes}
+use Rattle.words.specs.declared.Modules.{Modules}
 use Rattle.words.specs.declared.Answer.{Answer}
 use Rattle.words.specs.declared.Answer.TheVariants.{HandedBack, ShortForData}
 use Rattle.words.specs.Order.{Check, check, first_of, Outcome, outcome, byte_count, module_count}
 use Rattle.symbologies.specs.Symbologies.{symbology_of}
 use Rattle.symbologies.specs.Rows.{data_read, data_checks}
 use Rattle.symbologies.specs.Strips.{row_read, seen_checks}
-use Rattle.data.specs.declared.reading.Handed.{Handed}
-use Rattle.data.specs.declared.reading.Handed.TheVariants.{Data, Turned}
 use Rattle.strip.specs.Drawing.{Call, refused}
 
 abbrev pub data_in : ℕ → ℕ → List ℕ → List ℕ
@@ -48,6 +48,6 @@ unfoldable pub handed_answer : ℕ → ℕ → List ℕ → Answer
 handed_answer s m t = HandedBack (byte_count (length (data_in s m t))) (module_count (sum t))
 
 -- handed over: how an answer stands in the words that the crates share
-abbrev pub answer_for : Handed → ℕ → Answer
-answer_for (Data n) total = HandedBack n (module_count total)
-answer_for (Turned a) total = a
+abbrev pub answer_for : Result (Bytes × Modules) Answer → Answer
+answer_for (Ok back) = HandedBack back.0 back.1
+answer_for (Err a) = a

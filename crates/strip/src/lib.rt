@@ -11,24 +11,16 @@
 // field of just the data's length, and `read_strip` (specs/Reading.antt). Each is the first of a list of checks that applies.
 #![tactic(auto)]
 
-ghost use Rattle.std.specs.Prelude.{◌≡◌, true, length};
-ghost use Rattle.symbologies.specs.Sizes.{places};
-ghost use Rattle.symbologies.specs.Strips.{ready};
-ghost use Rattle.symbologies.specs.Told.{modules_within};
-ghost use Rattle.data.specs.Held.{data_of_row, handed_of, written};
-ghost use Rattle.units.specs.Laid.{chars_of, laid_of, laid_in};
+ghost use Rattle.std.specs.Prelude.{◌≡◌};
 ghost use Rattle.strip.specs.Drawing.{draw_data, draw_field, answer_of};
 ghost use Rattle.strip.specs.Reading.{read_strip, answer_for};
 
-use data::Handed;
-use symbologies::judging::Verdict;
 use symbologies::lengths;
 use symbologies::row::Row;
-use symbologies::sizes::PLACES;
-use units::Laid;
-use words::{Answer, Modules};
+use words::{Answer, Bytes, Elements, Modules};
 
 // The strip of data.
+#[tactic(auto, unfolding(crate::specs::Drawing::draw_data))]
 pub fn draw(symbology: u8, mode: u8, text: &[u8], out: &mut [u8]) -> Answer
     ensures value { result ≡ (draw_data symbology mode text.now out.old).answer }
     ensures out_after { out.new ≡ (draw_data symbology mode text.now out.old).buffer }
@@ -37,37 +29,31 @@ pub fn draw(symbology: u8, mode: u8, text: &[u8], out: &mut [u8]) -> Answer
 }
 
 // The strip of a job record's field, of which `count` bytes are data and the others must be zero.
+// Stays a `match`, here and in `read`: an `Answer` is made of either side.
 pub fn draw_field(kind: u8, mode: u8, count: usize, field: &[u8], out: &mut [u8]) -> Answer
     ensures value { result ≡ (draw_field kind mode count field.now out.old).answer }
     ensures out_after { out.new ≡ (draw_field kind mode count field.now out.old).buffer }
 {
-    let mut codes = [0; PLACES];
-    let filled = rows::row_of_field(kind, mode, count, field, &mut codes);
-    let verdict = filled.verdict;
-    match verdict {
-        Verdict::Turned(answer) => answer,
-        Verdict::Given => lay(
-            kind,
-            Row {
-                codes,
-                len: filled.len,
-            },
-            out,
-        ),
+    match lay(kind, mode, count, field, out) {
+        Ok((elements, modules)) => Answer::Drawn(elements, modules),
+        Err(answer) => answer,
     }
 }
 
-// The answer for a row of its symbology.
-fn lay(symbology: u8, row: Row, out: &mut [u8]) -> Answer
-    requires { ready symbology (chars_of row) ≡ true }
-    ensures value { result ≡ answer_of (laid_of symbology (chars_of row) (length out.old)) }
-    ensures out_after { out.new ≡ laid_in symbology (chars_of row) out.old }
+// The elements and modules of a field's strip, which is laid out, or the answer that turns the field away.
+fn lay(
+    kind: u8,
+    mode: u8,
+    count: usize,
+    field: &[u8],
+    out: &mut [u8],
+) -> Result<(Elements, Modules), Answer>
+    ensures value { answer_of result ≡ (draw_field kind mode count field.now out.old).answer }
+    ensures out_after { out.new ≡ (draw_field kind mode count field.now out.old).buffer }
 {
-    let laid = units::draw_row(symbology, row, out);
-    match laid {
-        Laid::Strip(elements, modules) => Answer::Drawn(elements, modules),
-        Laid::Short(elements) => Answer::ShortForStrip(elements),
-    }
+    let mut row = Row::EMPTY;
+    rows::row_of_field(kind, mode, count, field, &mut row)?;
+    units::draw_row(kind, row, out)
 }
 
 // The data of a strip.
@@ -75,27 +61,25 @@ pub fn read(symbology: u8, mode: u8, strip: &[u8], out: &mut [u8]) -> Answer
     ensures value { result ≡ (read_strip symbology mode strip.now out.old).answer }
     ensures out_after { out.new ≡ (read_strip symbology mode strip.now out.old).buffer }
 {
-    let mut codes = [0; PLACES];
-    let filled = reads::row_seen(symbology, mode, strip, &mut codes);
-    let verdict = filled.verdict;
-    match verdict {
-        Verdict::Turned(answer) => answer,
-        Verdict::Given => hand_back(symbology, mode, &codes, filled.len, out),
+    match hand_back(symbology, mode, strip, out) {
+        Ok((bytes, modules)) => Answer::HandedBack(bytes, modules),
+        Err(answer) => answer,
     }
 }
 
-// The answer for the row of a strip: 12, 7, 8, or its data. What was read is drawn, so its total is the formula's.
-fn hand_back(symbology: u8, mode: u8, codes: &[u8; PLACES], n: usize, out: &mut [u8]) -> Answer
-    requires { length codes.now ≡ places }
-    ensures value { result ≡ answer_for (handed_of (data_of_row symbology mode (record { codes = codes.entry.now; len = n })) (length out.old)) (modules_within symbology (record { codes = codes.entry.now; len = n })) }
-    ensures out_after { out.new ≡ written (data_of_row symbology mode (record { codes = codes.entry.now; len = n })) out.old }
+// The bytes of a strip's data, which are handed back, and its modules, or the answer that turns the strip away. What was read is drawn, so
+// its total is the formula's.
+fn hand_back(
+    symbology: u8,
+    mode: u8,
+    strip: &[u8],
+    out: &mut [u8],
+) -> Result<(Bytes, Modules), Answer>
+    ensures value { answer_for result ≡ (read_strip symbology mode strip.now out.old).answer }
+    ensures out_after { out.new ≡ (read_strip symbology mode strip.now out.old).buffer }
 {
-    let handed = data::data_of(symbology, mode, codes, n, out);
-    match handed {
-        Handed::Turned(answer) => answer,
-        Handed::Data(bytes) => Answer::HandedBack(
-            bytes,
-            Modules(lengths::modules_of(symbology, codes, n)),
-        ),
-    }
+    let mut row = Row::EMPTY;
+    reads::row_seen(symbology, mode, strip, &mut row)?;
+    let bytes = data::data_of(symbology, mode, &row, out)?;
+    Ok((bytes, Modules(lengths::modules_of(symbology, &row))))
 }

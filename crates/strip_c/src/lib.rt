@@ -7,7 +7,7 @@ ghost use Rattle.strip.specs.Reading.{read_strip};
 ghost use Rattle.strip.specs.Four.{four_of};
 
 use strip::{draw, read};
-use words::Answer;
+use words::{Answer, Said};
 
 // The strip of data.
 #[unsafe(no_mangle)]
@@ -40,10 +40,11 @@ pub extern "C" fn strip_read(
 }
 
 // Number, place, count and total of an answer.
+// Stays a function: a crate may give a `From` only to a type of its own.
 fn four_of(answer: Answer) -> [u64; 4]
     ensures { result ≡ four_of answer }
 {
-    let said = words::say(answer);
+    let said = Said::from(answer);
     [
         said.number as u64,
         said.place as u64,

@@ -6,220 +6,118 @@
 // line.
 #![tactic(auto)]
 
-ghost use Rattle.std.specs.Prelude.{◌≡◌, ◌+◌, ◌&&◌, ◌≤◌, ltb, length, IfOk};
+ghost use Rattle.std.specs.Prelude.{◌≡◌, ◌+◌, ◌≤◌, ◌<◌, length, IfOk};
+ghost use Rattle.lines.specs.Sizes.{longest_line};
+ghost use Rattle.jobs.specs.declared.run.Ended.TheVariants.{Full};
 
-use jobs::Ended;
-use std::io;
+use jobs::{Ended, Run};
 use std::io::{Read, Write};
+use std::{fmt, io};
 
-// What was given up of the held bytes, the numbers behind it, whether the run goes on, and whether there are more lines than room.
-#[derive(Clone, Copy)]
-struct Printed {
-    taken: usize,
-    records: u64,
-    drawn: u64,
-    on: bool,
-    full: bool,
+// What failed, and why.
+#[derive(Drop)]
+enum Failure {
+    Read(io::Error),
+    Write(io::Error),
+}
+
+impl fmt::Display for Failure {
+    fn fmt<W: fmt::Write>(&self, f: &mut fmt::Formatter<W>) -> fmt::Result {
+        match self {
+            Failure::Read(error) => write!(f, "read: {error}"),
+            Failure::Write(error) => write!(f, "write: {error}"),
+        }
+    }
 }
 
 fn main(rt: HostRuntime) {
+    if let Err(failure) = run(&rt) {
+        // Where standard error fails too, nobody is left to be told.
+        let _ = eprintln!(rt; "strips: {failure}");
+    }
+}
+
+// Reads and prints until the input or the run ends.
+fn run(rt: &HostRuntime) -> Result<(), Failure> {
     let mut held = [0; 65536];
     let mut room = [0; 65536];
     let mut have = 0;
-    let mut records = 0;
-    let mut drawn = 0;
-    // A proved loop has to end, and nothing says that an input does. No run takes so many turns.
-    let mut turns = u64::MAX;
-    while turns > 0 {
-        turns -= 1;
-        let turn = read_some(&rt, &mut held, have, records, drawn, &mut room);
-        if !turn.on {
-            return;
-        }
-        have = turn.have;
-        records = turn.records;
-        drawn = turn.drawn;
-    }
-}
-
-// What is held after a turn, the numbers so far, and whether the run goes on.
-#[derive(Clone, Copy)]
-struct Turn {
-    have: usize,
-    records: u64,
-    drawn: u64,
-    on: bool,
-}
-
-// Reads once behind what is held, prints the whole records, and keeps the rest.
-fn read_some(
-    rt: &HostRuntime,
-    held: &mut [u8],
-    have: usize,
-    records: u64,
-    drawn: u64,
-    room: &mut [u8],
-) -> Turn
-    requires { have ≤ length held.old }
-    ensures { result.have ≤ length held.old }
-{
-    let got = match read_behind(rt, held, have) {
-        Ok(got) => got,
-        Err(error) => {
-            fail(rt, "read", error);
-            return over();
-        }
+    let mut run = Run {
+        taken: 0,
+        written: 0,
+        records: 0,
+        drawn: 0,
+        ended: Ended::More,
     };
-    if got == 0 {
-        finish(rt, have, records, drawn, room);
-        return over();
+    // A proved loop has to end, and nothing says that an input does. No run takes so many turns.
+    for _ in 0..u64::MAX {
+        let got = read_behind(rt, &mut held, have)?;
+        if got == 0 {
+            return finish(rt, have, run, &mut room);
+        }
+        let end = have + got;
+        run = print_held(rt, &held[..end], run, &mut room)?;
+        if matches!(run.ended, Ended::Stopped) {
+            return stop(rt, run, &mut room);
+        }
+        have = keep(&mut held, run.taken, end);
     }
-    let end = have + got;
-    let printed = print_held(rt, &held[..end], records, drawn, room);
-    let left = keep(held, printed.taken, end);
-    Turn {
-        have: left,
-        records: printed.records,
-        drawn: printed.drawn,
-        on: printed.on,
-    }
+    Ok(())
 }
 
-fn read_behind(rt: &HostRuntime, held: &mut [u8], have: usize) -> io::Result<usize>
+fn read_behind(rt: &HostRuntime, held: &mut [u8], have: usize) -> Result<usize, Failure>
     requires { have ≤ length held.old }
     ensures { IfOk result (λ got. have + got ≤ length held.old) }
 {
-    rt.stdin().read(&mut held[have..])
+    rt.stdin().read(&mut held[have..]).map_err(Failure::Read)
 }
 
-// Says on standard error what failed, and why.
-fn fail(rt: &HostRuntime, what: &str, error: io::Error) {
-    match eprintln!(rt; "strips: {what}: {error}") {
-        Ok(()) => {}
-        Err(_) => {}
-    }
-}
-
-fn over() -> Turn
-    ensures { result.have ≡ 0 }
-{
-    Turn {
-        have: 0,
-        records: 0,
-        drawn: 0,
-        on: false,
-    }
-}
-
-// Prints the whole records at the front of the held bytes, a roomful of lines at a time.
-fn print_held(rt: &HostRuntime, held: &[u8], records: u64, drawn: u64, room: &mut [u8]) -> Printed
-    ensures { result.taken ≤ length held.now }
+// Prints the whole records at the front of the held bytes, a roomful of lines at a time: what the last roomful answered, with all
+// that was taken.
+fn print_held(rt: &HostRuntime, held: &[u8], before: Run, room: &mut [u8]) -> Result<Run, Failure>
+    requires { longest_line ≤ length room.old }
+    ensures { IfOk result (λ run. run.taken ≤ length held.now) }
 {
     let mut taken = 0;
-    let mut number = records;
-    let mut good = drawn;
-    let mut on = true;
-    while taken < held.len() {
-        let part = print_some(rt, &held[taken..], number, good, room);
-        number = part.records;
-        good = part.drawn;
-        on = part.on;
-        taken += part.taken;
-        if !again(part) {
-            return report(taken, number, good, on, false);
+    let mut run = before;
+    // Stays a `loop`: a roomful takes what `run_held` says that it took.
+    loop {
+        run = print_some(rt, &held[taken..], run, room)?;
+        taken += run.taken;
+        if !matches!(run.ended, Ended::Full) {
+            return Ok(Run { taken, ..run });
         }
     }
-    report(taken, number, good, on, false)
 }
 
-// Whether there are more lines. (A roomful that takes nothing can't come: the room holds a line.)
-fn again(part: Printed) -> bool
-    ensures { result ≡ (part.full && ltb 0 part.taken) }
+// One roomful. The room holds a line, so that a full one took a record.
+fn print_some(rt: &HostRuntime, held: &[u8], before: Run, room: &mut [u8]) -> Result<Run, Failure>
+    requires { longest_line ≤ length room.old }
+    ensures within { IfOk result (λ run. run.taken ≤ length held.now) }
+    ensures full_took { IfOk result (λ run. run.ended ≡ Full → 0 < run.taken) }
 {
-    if part.full { 0 < part.taken } else { false }
+    let run = jobs::run_held(held, before.records, before.drawn, room);
+    print(rt, &room[..run.written])?;
+    Ok(run)
 }
 
-// One roomful.
-fn print_some(rt: &HostRuntime, held: &[u8], records: u64, drawn: u64, room: &mut [u8]) -> Printed
-    ensures { result.taken ≤ length held.now }
-{
-    let run = jobs::run_held(held, records, drawn, room);
-    let written = print(rt, room, run.written);
-    let ended = run.ended;
-    if is_stopped(ended) {
-        stop(rt, written, run.records, room);
-        return report(run.taken, run.records, run.drawn, false, false);
-    }
-    report(
-        run.taken,
-        run.records,
-        run.drawn,
-        written,
-        has_more(written, ended),
-    )
-}
-
-fn report(taken: usize, records: u64, drawn: u64, on: bool, full: bool) -> Printed
-    ensures { result.taken ≡ taken }
-{
-    Printed {
-        taken,
-        records,
-        drawn,
-        on,
-        full,
-    }
-}
-
-fn is_stopped(ended: Ended) -> bool {
-    match ended {
-        Ended::Stopped => true,
-        _ => false,
-    }
-}
-
-// Whether there are lines that the room could not hold. Where a write failed none of them is printed any more.
-fn has_more(written: bool, ended: Ended) -> bool {
-    if !written {
-        return false;
-    }
-    match ended {
-        Ended::Full => true,
-        _ => false,
-    }
-}
-
-// The last line where the run ends at an unknown kind, if the lines before it were written.
-fn stop(rt: &HostRuntime, written: bool, records: u64, room: &mut [u8]) {
-    if written {
-        let n = lines::stop_line(records, room);
-        print(rt, room, n);
-    }
+// The last line where the run ends at an unknown kind or a cut record.
+fn stop(rt: &HostRuntime, run: Run, room: &mut [u8]) -> Result<(), Failure> {
+    let n = lines::stop_line(run.records, room);
+    print(rt, &room[..n])
 }
 
 // The last line where the input ends, between two records or within one.
-fn finish(rt: &HostRuntime, have: usize, records: u64, drawn: u64, room: &mut [u8]) {
-    if have == 0 {
-        let n = lines::end_line(records, drawn, room);
-        print(rt, room, n);
-    } else {
-        stop(rt, true, records, room);
+fn finish(rt: &HostRuntime, have: usize, run: Run, room: &mut [u8]) -> Result<(), Failure> {
+    if have > 0 {
+        return stop(rt, run, room);
     }
+    let n = lines::end_line(run.records, run.drawn, room);
+    print(rt, &room[..n])
 }
 
-// Writes the first n bytes of the room, and says so where that fails.
-fn print(rt: &HostRuntime, room: &[u8], n: usize) -> bool {
-    if n > room.len() {
-        fail(rt, "write", io::Error::from(io::ErrorKind::WriteZero));
-        return false;
-    }
-    match rt.stdout().write_all(&room[..n]) {
-        Ok(()) => true,
-        Err(error) => {
-            fail(rt, "write", error);
-            false
-        }
-    }
+fn print(rt: &HostRuntime, lines: &[u8]) -> Result<(), Failure> {
+    rt.stdout().write_all(lines).map_err(Failure::Write)
 }
 
 // Moves what is held behind the taken bytes to the front: its count.
@@ -228,11 +126,6 @@ fn keep(held: &mut [u8], taken: usize, end: usize) -> usize
     requires end_in_bounds { end ≤ length held.old }
     ensures { result ≤ end }
 {
-    let n = end - taken;
-    let mut i = 0;
-    while i < n {
-        held[i] = held[taken + i];
-        i += 1;
-    }
-    n
+    held.copy_within(taken..end, 0);
+    end - taken
 }

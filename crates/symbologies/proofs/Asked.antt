@@ -10,25 +10,20 @@
 --              where a mode has one
 --
 -- Assumes nothing.
-use mathlib.Core.Path.{◌≡◌}
-use mathlib.Core.Logic.{◌⊎◌, ◌≢◌}
-use mathlib.Core.Bool.{true}
-use mathlib.Core.List.{List}
-use Prim.Native.Nat.{ℕ, ◌+◌, ◌-◌, ◌<◌, ◌≤◌}
-use lib.ListN.{length, get_or}
+use Rattle.std.proofs.Common.{◌≡◌, ◌⊎◌, ◌≢◌, true, List, ℕ, ◌+◌, ◌-◌, ◌<◌, ◌≤◌, length}
 use Rattle.laws.specs.Spelling.{Place, fitting, Coder}
 use Rattle.laws.specs.Rules.{inserted}
 use Rattle.laws.proofs.Spelling.{Valid}
 use Rattle.laws.proofs.Fitting.{Keeps}
 use Rattle.laws.proofs.Rules.{Sound, Apart}
 use Rattle.symbologies.specs.Sizes.{places}
-use Rattle.symbologies.specs.Limits.{offered, added}
+use Rattle.symbologies.specs.Limits.{offered, added, least_of, most_of}
 use Rattle.symbologies.specs.Symbologies.{Symbology}
 use Rattle.symbologies.proofs.Coders.{Single}
 
 pub record Counts (y : Symbology) (m : ℕ) : Type 0 where
-  pub some : 0 < get_or y.limits.least m 0
-  pub cap : get_or y.limits.most m 0 + added m ≤ y.limits.room
+  pub some : 0 < least_of y.limits m
+  pub cap : most_of y.limits m + added m ≤ y.limits.room
   pub mode : m < 3
 
 -- the last byte draws one character
@@ -36,14 +31,14 @@ abbrev pub EndsAlone : Coder → Type 0
 EndsAlone k = (p : Place) (b : ℕ) → p.last ≡ true → length (k.drawn p b) ≤ 1
 
 pub record Loose (y : Symbology) (m : ℕ) : Type 0 where
-  pub all : y.limits.room ≤ get_or y.limits.most m 0 + added m
-  pub one : (get_or y.limits.least m 0 ≤ 1) ⊎ ((m ≡ 1) × (get_or y.limits.least m 0 ≤ 2))
+  pub all : y.limits.room ≤ most_of y.limits m + added m
+  pub one : (least_of y.limits m ≤ 1) ⊎ ((m ≡ 1) × (least_of y.limits m ≤ 2))
 
 pub record Checked (y : Symbology) (m : ℕ) : Type 0 where
   pub sound : Sound y.rule places
   pub apart : (p : Place) → Apart y.rule.modulus (y.allowed p)
-  pub inserts : (h : List ℕ) → get_or y.limits.least m 0 ≤ length h → fitting y.allowed true h ≡ true → (sum : ℕ) → fitting y.allowed true (inserted (length h - y.rule.behind) (y.rule.check sum) h) ≡ true
-  pub enough : y.rule.behind < get_or y.limits.least m 0 + added m
+  pub inserts : (h : List ℕ) → least_of y.limits m ≤ length h → fitting y.allowed true h ≡ true → (sum : ℕ) → fitting y.allowed true (inserted (length h - y.rule.behind) (y.rule.check sum) h) ≡ true
+  pub enough : y.rule.behind < least_of y.limits m + added m
 
 pub record Proper (y : Symbology) : Type 0 where
   pub valid : (m : ℕ) → Valid (y.coder m)

@@ -6,12 +6,7 @@
 --               the modulus, and it is the check as document 01 words it
 --
 -- Assumes nothing.
-use mathlib.Core.Path.{◌≡◌, sym}
-use mathlib.Core.Logic.{◌≢◌, ◌↔◌}
-use mathlib.Core.Bool.{true}
-use mathlib.Core.List.{List}
-use Prim.Native.Nat.{ℕ, suc, ◌-◌, ◌%◌, ◌<◌, ◌≤◌}
-use lib.ListN.{length, get_or, set}
+use Rattle.std.proofs.Common.{◌≡◌, sym, ◌≢◌, ◌↔◌, true, List, ℕ, suc, ◌-◌, ◌%◌, ◌<◌, ◌≤◌, length, get_or, set}
 use Rattle.laws.specs.Spelling.{Place}
 use Rattle.laws.specs.Weigh.{dot}
 use Rattle.laws.specs.Rules.{inserted, check_of, weights_of}

@@ -7,15 +7,8 @@
 --                           and so on from the left; ticket 1 of document 02 changes odd numbers alone
 --
 -- Assumes nothing.
-use mathlib.Core.Path.{◌≡◌, refl, sym, ◌∙◌}
-use mathlib.Core.List.{List}
-use mathlib.Core.Logic.{◌≢◌}
-use Prim.Native.Nat.{ℕ, ◌%◌, ◌<◌}
-use native.Mathlib.Omega.{arith}
-use native.Mathlib.Nat.{one-mul, add-zero, mod-eq_of_lt, mod-lt}
-use lib.Dec.{ltb, lit<}
-use lib.ListN.{length, length-reverse}
-use borrow.Author.Tests.{ltb-true}
+use Rattle.std.proofs.Common.{◌≡◌, refl, sym, ◌∙◌, List, ◌≢◌, ℕ, ◌%◌, ◌<◌, arith, one-mul, add-zero, mod-eq_of_lt, mod-lt, ltb, lit<, length, ltb-true}
+use lib.ListN.{length-reverse}
 use Rattle.laws.specs.Weigh.{dot, turns}
 use Rattle.laws.specs.Rules.{check_of}
 use Rattle.laws.proofs.Weigh.{inverses-turns, inverses-reverse, length-turns, turns-turned}

@@ -18,16 +18,10 @@
 --   turns                    each way for every symbology that has a count
 --
 -- Assumes nothing.
-use mathlib.Core.Path.{◌≡◌, refl, sym, ap, ◌∙◌}
-use mathlib.Core.Bool.{Bool, true, false, ◌&&◌, ◌||◌}
-use mathlib.Core.List.{List, [], ◌∷◌, ◌++◌, map}
-use Prim.Native.Nat.{ℕ, zero, suc, ◌+◌, ◌*◌, ◌-◌, ◌/◌, ◌%◌, ◌^◌, ◌<◌, ◌≤◌}
-use native.Mathlib.Omega.{arith}
-use native.Mathlib.Nat.{le_of_suc-le-suc, not-suc-le-zero, div-div-eq-div-mul, div-one, pow-suc, suc-add}
-use lib.Dec.{eqb, eqb-zero-suc, eqb-suc-zero, eqb-suc-suc}
-use lib.ListN.{length, get_or, take, drop, length-map, length-drop}
-use lib.Seq.{take_all, length-take-le}
-use borrow.Author.Tests.{ltb-false, lt-ltb, le-ltb, le-leb}
+use Rattle.std.proofs.Common.{◌≡◌, refl, sym, ap, ◌∙◌, Bool, true, false, ◌&&◌, ◌||◌, List, [], ◌∷◌, ◌++◌, map, ℕ, zero, suc, ◌+◌, ◌*◌, ◌-◌, ◌/◌, ◌%◌, ◌^◌, ◌<◌, ◌≤◌, arith, le_of_suc-le-suc, not-suc-le-zero, div-one, pow-suc, suc-add, eqb, length, get_or, take, drop, length-drop, take_all, length-take-le, ltb-false, lt-ltb, le-ltb, le-leb}
+use native.Mathlib.Nat.{div-div-eq-div-mul}
+use lib.Dec.{eqb-zero-suc, eqb-suc-zero, eqb-suc-suc}
+use lib.ListN.{length-map}
 use Rattle.laws.specs.Search.{pick, index_in}
 use Rattle.laws.specs.Units.{Kind, fixed, free, Fits}
 use Rattle.laws.specs.Shapes.{many}

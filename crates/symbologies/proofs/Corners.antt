@@ -15,14 +15,8 @@
 --   at_once     a pair more of which two come at once, 3 before 13 and 12 before 7; corners-at-once, they are answered so
 --
 -- Assumes nothing.
-use mathlib.Core.Path.{◌≡◌, refl}
-use mathlib.Core.Bool.{Bool, true, false, ◌&&◌, not}
-use mathlib.Core.List.{List, [], ◌∷◌, ◌++◌, map}
-use Prim.Native.Nat.{ℕ, ◌+◌, ◌*◌, ◌-◌, ◌%◌, ◌<◌}
+use Rattle.std.proofs.Common.{◌≡◌, refl, Bool, true, false, ◌&&◌, not, List, [], ◌∷◌, ◌++◌, map, ℕ, ◌+◌, ◌*◌, ◌-◌, ◌%◌, ◌<◌, arith, eqb, ltb, leb, length}
 use Prim.Native.String.{String}
-use native.Mathlib.Omega.{arith}
-use lib.Dec.{eqb, ltb, leb}
-use lib.ListN.{length}
 use Rattle.laws.specs.Search.{pick, index_in, upto}
 use Rattle.laws.specs.Elements.{sum}
 use Rattle.laws.specs.Spelling.{counted, byte_for}

@@ -12,20 +12,15 @@
 --   by_number         so a fact of those nine is a fact of every such symbology
 --
 -- Assumes nothing.
-use mathlib.Core.Path.{◌≡◌, refl}
-use mathlib.Core.Bool.{Bool, true, false, ◌&&◌, ◌||◌, not}
-use mathlib.Core.List.{[]}
-use Prim.Native.Nat.{ℕ, zero, suc, ◌+◌, ◌*◌, ◌-◌, ◌/◌, ◌%◌, ◌<◌, ◌≤◌}
-use native.Mathlib.Omega.{arith}
+use Rattle.std.proofs.Common.{◌≡◌, refl, Bool, true, false, ◌&&◌, ◌||◌, not, [], ℕ, zero, suc, ◌+◌, ◌*◌, ◌-◌, ◌/◌, ◌%◌, ◌<◌, ◌≤◌, arith, leb, leb-true}
 use native.Mathlib.Decide.{dec_lt}
-use lib.Dec.{leb}
-use lib.ListN.{get_or, get_or-eq_default}
-use borrow.Author.Tests.{eqb-false, leb-true, not-true}
+use lib.ListN.{get_or-eq_default}
+use borrow.Author.Tests.{eqb-false, not-true}
 use Rattle.laws.specs.Search.{pick, upto}
 use Rattle.laws.proofs.Finite.{both_left, both_right, upto-at, From, from_at}
 use Rattle.symbologies.specs.declared.limits.Limits.{Limits}
 use Rattle.symbologies.specs.Sizes.{places}
-use Rattle.symbologies.specs.Limits.{unknown, offered, holds, odd, added, drawable}
+use Rattle.symbologies.specs.Limits.{unknown, offered, holds, odd, added, drawable, least_of, most_of}
 use Rattle.symbologies.specs.Checks.{no_check}
 use Rattle.symbologies.specs.Parts.{each}
 use Rattle.symbologies.specs.Symbologies.{digits, symbologies, symbology_of}
@@ -39,8 +34,8 @@ use Rattle.symbologies.proofs.Proper.{proper}
 
 pub record ByMode (s n m : ℕ) : Type 0 where
   pub offers : offered (symbology_of s).limits m ≡ true
-  pub least : get_or (symbology_of s).limits.least m 0 + added m ≤ n
-  pub most : n ≤ get_or (symbology_of s).limits.most m 0 + added m
+  pub least : least_of (symbology_of s).limits m + added m ≤ n
+  pub most : n ≤ most_of (symbology_of s).limits m + added m
   pub paired : odd (symbology_of s).limits n ≡ false
   pub counts : Counts (symbology_of s) m
 
@@ -50,7 +45,7 @@ of-mode s n m e =
     let o : offered l m ≡ true = both_left (offered l m) (drawable l m n) e in
     let d : drawable l m n ≡ true = both_right (offered l m) (drawable l m n) e in
     let c : Counts (symbology_of s) m = (proper s).counts m o in
-    let h : (get_or l.least m 0 ≤ n - added m) × (n - added m ≤ get_or l.most m 0) = held l m (n - added m) (both_left (holds l m (n - added m)) (not (odd l n)) d) in
+    let h : (least_of l m ≤ n - added m) × (n - added m ≤ most_of l m) = held l m (n - added m) (both_left (holds l m (n - added m)) (not (odd l n)) d) in
     record {
       offers = o;
       least = omega (arith, c.some, h.0);
@@ -99,7 +94,7 @@ pub mode-at : (s n m : ℕ) (f : ℕ → Bool) → in-modes (symbology_of s).lim
 mode-at s n m f t b = rw b.offers at (upto-at 3 (λ m. pick (offered (symbology_of s).limits m) (f m) true) t m b.counts.mode)
 
 abbrev within : Limits → ℕ → ℕ → ℕ → Bool
-within l least most m = leb least (get_or l.least m 0 + added m) && leb (get_or l.most m 0 + added m) most
+within l least most m = leb least (least_of l m + added m) && leb (most_of l m + added m) most
 
 ranged : (s least most : ℕ) → in-modes (symbology_of s).limits (within (symbology_of s).limits least most) ≡ true → (n : ℕ) → counted s n ≡ true
     → (least ≤ n) × (n ≤ most)
@@ -107,8 +102,8 @@ ranged s least most t n =
     by_mode s n
     (λ m b.
     let l : Limits = (symbology_of s).limits in
-    let low : ℕ = get_or l.least m 0 + added m in
-    let high : ℕ = get_or l.most m 0 + added m in
+    let low : ℕ = least_of l m + added m in
+    let high : ℕ = most_of l m + added m in
     let w : (leb least low && leb high most) ≡ true = mode-at s n m (within l least most) t b in (
       omega (arith, leb-true least low (both_left (leb least low) (leb high most) w), b.least),
       omega (arith, leb-true high most (both_right (leb least low) (leb high most) w), b.most),

@@ -6,20 +6,15 @@
 --   same_length     the length of a count that a length has
 --
 -- Assumes nothing.
-use mathlib.Core.Path.{◌≡◌, refl}
-use mathlib.Core.Bool.{Bool, true, false}
-use Prim.Native.Nat.{ℕ, ◌+◌, ◌*◌, ◌-◌, ◌/◌, ◌<◌}
-use native.Mathlib.Omega.{arith}
-use native.Mathlib.Nat.{mul-pos, mul-div_cancel_left}
-use lib.Dec.{eqb, leb}
-use borrow.Author.Tests.{eqb-true, eq-eqb, le-leb}
+use Rattle.std.proofs.Common.{◌≡◌, refl, Bool, true, false, ℕ, ◌+◌, ◌*◌, ◌-◌, ◌/◌, ◌<◌, arith, mul-pos, eqb, leb, eqb-true, eq-eqb, le-leb}
+use native.Mathlib.Nat.{mul-div_cancel_left}
 use Rattle.laws.specs.Search.{pick}
 use Rattle.symbologies.specs.declared.limits.Limits.{Limits}
 use Rattle.symbologies.specs.Sizes.{longest}
 use Rattle.symbologies.specs.Limits.{offered, drawable, elements_in, count_in}
 use Rattle.symbologies.specs.Symbologies.{symbology_of}
 use Rattle.symbologies.specs.Strips.{elements_of, counted, count_for}
-use Rattle.symbologies.proofs.Numbers.{step-some}
+use Rattle.symbologies.proofs.Numbers.{step_some}
 use Rattle.symbologies.proofs.Proper.{proper}
 use Rattle.symbologies.proofs.Counted.{counted-by, counted-some}
 use Rattle.symbologies.proofs.Ready.{few-elements}
@@ -52,7 +47,7 @@ back_count l long h =
 
 pub same_count : (s n : ℕ) → counted s n ≡ true → count_for s (elements_of s n) ≡ n
 unfolding count_for elements_of
-same_count s n c = rw (le-leb (elements_of s n) longest (few-elements s n c)) (count-back (symbology_of s).limits n (step-some s) (counted-some s n c))
+same_count s n c = rw (le-leb (elements_of s n) longest (few-elements s n c)) (count-back (symbology_of s).limits n (step_some s) (counted-some s n c))
 
 pub same_length : (s long : ℕ) → counted s (count_for s long) ≡ true → elements_of s (count_for s long) ≡ long
 unfolding count_for elements_of

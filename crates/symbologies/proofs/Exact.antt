@@ -8,12 +8,7 @@
 --   seen-modules  so a strip that is seen has the modules of its row
 --
 -- Assumes nothing.
-use mathlib.Core.Path.{◌≡◌, refl, sym, ap, ◌∙◌}
-use mathlib.Core.Bool.{true, false}
-use mathlib.Core.List.{List}
-use Prim.Native.Nat.{ℕ}
-use native.Mathlib.Omega.{arith}
-use lib.ListN.{length}
+use Rattle.std.proofs.Common.{◌≡◌, refl, sym, ap, ◌∙◌, true, false, List, ℕ, arith, length}
 use Rattle.laws.specs.Elements.{sum}
 use Rattle.laws.specs.Units.{Kind, Fits, Reading, found, stopped, read, strip}
 use Rattle.laws.proofs.Strips.{strip-read, read-strip}

@@ -5,19 +5,13 @@
 --   last-passes       with the last of them and the check, exactly if they are equal
 --
 -- All of it is the one law of `laws` with the weights of the row, the check's among them, and then arithmetic. Assumes nothing.
-use mathlib.Core.Path.{◌≡◌, refl, sym, ◌∙◌}
+use Rattle.std.proofs.Common.{◌≡◌, refl, sym, ◌∙◌, ◌↔◌, ◌⊎◌, inl, inr, ◌≢◌, true, ◌||◌, List, [], ◌∷◌, ◌++◌, ℕ, suc, ◌+◌, ◌-◌, ◌*◌, ◌%◌, ◌<◌, ◌≤◌, arith, mod-eq_of_lt, zero-mul, eqb, ltb, length, get_or, drop_of_length-le, take_all, eqb-true, ne_eqb}
 use mathlib.Core.Logic.Iff
-use mathlib.Core.Logic.{◌↔◌, ◌⊎◌, inl, inr, ◌≢◌}
-use mathlib.Core.Bool.{true, ◌||◌}
-use mathlib.Core.List.{List, [], ◌∷◌, ◌++◌, reverse_aux, reverse_aux-eq}
-use Prim.Native.Nat.{ℕ, suc, ◌+◌, ◌-◌, ◌*◌, ◌%◌, ◌<◌, ◌≤◌}
-use native.Mathlib.Omega.{arith}
-use native.Mathlib.Nat.{mod-eq_of_lt, zero-mod, zero-mul}
+use mathlib.Core.List.{reverse_aux, reverse_aux-eq}
+use native.Mathlib.Nat.{zero-mod}
 use native.Mathlib.Decide.{ℕ_discrete}
-use lib.Dec.{eqb, ltb}
-use lib.ListN.{length, get_or, get_or-append, drop_of_length-le}
-use lib.Seq.{get_or_at, take_all}
-use borrow.Author.Tests.{eqb-true, ne_eqb}
+use lib.ListN.{get_or-append}
+use lib.Seq.{get_or_at}
 use Rattle.laws.specs.Search.{pick}
 use Rattle.laws.specs.Spelling.{Place}
 use Rattle.laws.specs.Rules.{Rule, place_of, passes, weights_of}

@@ -1,53 +1,48 @@
--- The bytes of a field behind its data: the loop that looks for one that is not zero.
+-- The bytes of a field behind its data: where the first one stands that is not zero.
 --
---   Zeros    the bytes from `count` up to i are zero: `none_yet`, `one_more`, `found-one`, `all-zero`
+--   some-nonzero    a place that the search gave is that of the first byte that is not zero, and there is one
+--   all-zero        where it gave none there is none
 --
 -- Assumes nothing.
-use mathlib.Core.Path.{◌≡◌}
-use mathlib.Core.Bool.{Bool, not}
-use mathlib.Core.List.{List}
-use Prim.Native.Nat.{ℕ, ◌+◌, ◌-◌, ◌≤◌, ◌<◌}
-use native.Mathlib.Omega.{arith}
-use lib.Dec.{eqb}
-use lib.ListN.{length, get_or, drop, length-drop}
-use lib.Seq.{get_or-drop}
-use borrow.Author.Tests.{eq-eqb, ne_eqb}
-use Rattle.laws.proofs.Search.{Passed, none, more, here, all}
-use Rattle.symbologies.specs.Rows.{nonzero}
+use Rattle.std.proofs.Common.{◌≡◌, refl, sym, ap, ◌∙◌, Bool, true, false, cond, not, eqb, ltb, ℕ, suc, ◌+◌, ◌-◌, List, length, length-drop, take, drop, Option, Some, None, position, arith}
+use Rattle.std.specs.List.{position_or_len}
+use Rattle.std.proofs.lemmas.List.Recursion.{is_position_or_len}
+use Rattle.std.proofs.lemmas.List.{take_all}
+use Rattle.laws.specs.Search.{pick, first}
+use Rattle.symbologies.specs.Rows.{nonzero, unclean}
 
 abbrev marked : ℕ → Bool
 marked b = not (eqb b 0)
 
-pub record Zeros (field : List ℕ) (count i : ℕ) : Type 0 where
-  pub low : count ≤ i
-  pub within : i ≤ length field
-  pub passed : Passed 0 (λ b. not (eqb b 0)) (drop count field) (i - count)
+nonzero-is : (rest : List ℕ) → nonzero rest ≡ position_or_len marked rest
+nonzero-is = is_position_or_len (first marked) marked refl (λ x xs. go (marked x) (first marked xs))
+  where
+    go : (b : Bool) (n : ℕ) → pick b 0 (suc n) ≡ cond b 0 (1 + n)
+    go true n = refl
+    go false n = omega arith
 
-pub none_yet : (field : List ℕ) (count : ℕ) → count ≤ length field → Zeros field count count
-none_yet field count h =
-    let e : count - count ≡ 0 = omega arith in
-    record { low = omega arith; within = h; passed = rw e (none 0 marked (drop count field)) }
+found : (rest : List ℕ) → position marked rest ≡ pick (ltb (nonzero rest) (length rest)) (Some (nonzero rest)) None
+found rest = rw (nonzero-is rest) (go (ltb (position_or_len marked rest) (length rest)))
+  where
+    go : (b : Bool) → cond b (Some (position_or_len marked rest)) None ≡ pick b (Some (position_or_len marked rest)) None
+    go true = refl
+    go false = refl
 
-module _ (field : List ℕ) (count i : ℕ) (h : i < length field) where
-  byte : count ≤ i → get_or (drop count field) (i - count) 0 ≡ get_or field i 0
-  byte l = let e : count + (i - count) ≡ i = omega arith in rw (get_or-drop, e)
+-- the bytes behind the data, as the code has them, and what the search for one gave
+module _ (count : ℕ) (field : List ℕ) (r : Option ℕ) (e : r ≡ position marked (take (length field - count) (drop count field))) where
+  behind : r ≡ pick (unclean count field) (Some (nonzero (drop count field))) None
+  behind = e ∙ ap (position marked) (take_all (length field - count) (drop count field) (omega (arith, length-drop count field))) ∙ found (drop count field)
 
-  in_rest : count ≤ i → i - count < length (drop count field)
-  in_rest l = rw length-drop (omega arith)
+  pub some-nonzero : (i : ℕ) → r ≡ Some i → (unclean count field ≡ true) × (i ≡ nonzero (drop count field))
+  some-nonzero i h = go (unclean count field) (sym behind ∙ h)
+    where
+      go : (b : Bool) → pick b (Some (nonzero (drop count field))) None ≡ Some i → (b ≡ true) × (i ≡ nonzero (drop count field))
+      go true e = (refl, cc)
+      go false e = let n : ◌≡◌ {A = ℕ} 0 1 = cc in absurd (omega arith)
 
-  pub one_more : get_or field i 0 ≡ 0 → Zeros field count i → Zeros field count (i + 1)
-  one_more z s =
-      let e : i + 1 - count ≡ i - count + 1 = omega (arith, s.low) in
-      record {
-        low = omega (arith, s.low);
-        within = omega arith;
-        passed = rw e (more 0 marked (drop count field) (i - count) (in_rest s.low) (rw (byte s.low, eq-eqb (get_or field i 0) 0 z)) s.passed);
-      }
-
-  pub found-one : (get_or field i 0 ≡ 0 → ⊥) → Zeros field count i → i ≡ count + nonzero (drop count field)
-  found-one z s =
-      omega
-      (arith, here 0 marked (drop count field) (i - count) (in_rest s.low) (rw (byte s.low, ne_eqb (get_or field i 0) 0 z)) s.passed, s.low)
-
-pub all-zero : (field : List ℕ) (count i : ℕ) → length field ≤ i → Zeros field count i → i ≡ count + nonzero (drop count field)
-all-zero field count i h s = omega (arith, all 0 marked (drop count field) (i - count) (rw length-drop (omega (arith, s.low))) s.passed, s.low)
+  pub all-zero : r ≡ None → unclean count field ≡ false
+  all-zero h = go (unclean count field) (sym behind ∙ h)
+    where
+      go : (b : Bool) → pick b (Some (nonzero (drop count field))) None ≡ None → b ≡ false
+      go true e = let n : ◌≡◌ {A = ℕ} 0 1 = cc in absurd (omega arith)
+      go false e = refl

@@ -7,11 +7,7 @@
 --   row-long, row-taken    of a row that holds a list: its places, and its first `len` are the list
 --
 -- Assumes nothing.
-use mathlib.Core.Path.{◌≡◌, refl, ap, ◌∙◌}
-use mathlib.Core.List.{List, [], ◌∷◌, ◌++◌}
-use Prim.Native.Nat.{ℕ, zero, suc, ◌<◌, ◌≤◌}
-use native.Mathlib.Omega.{arith}
-use lib.ListN.{length, get_or, take, set}
+use Rattle.std.proofs.Common.{◌≡◌, refl, ap, ◌∙◌, List, [], ◌∷◌, ◌++◌, ℕ, zero, suc, ◌<◌, ◌≤◌, arith, length, get_or, take, set}
 use Rattle.symbologies.specs.declared.row.Row.{Row}
 use Rattle.symbologies.specs.Sizes.{places}
 use Rattle.symbologies.specs.Told.{pad, row_in}

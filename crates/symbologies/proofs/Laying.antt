@@ -11,12 +11,7 @@
 --   steady-sum        a strip of such units has that many modules
 --
 -- Assumes nothing.
-use mathlib.Core.Path.{◌≡◌, refl}
-use mathlib.Core.List.{List, [], ◌∷◌, ◌++◌}
-use Prim.Native.Nat.{ℕ, zero, suc, ◌+◌, ◌*◌, ◌<◌, ◌≤◌}
-use native.Mathlib.Omega.{arith}
-use native.Mathlib.Nat.{le_of_suc-le-suc, not-suc-le-zero}
-use lib.ListN.{length, get_or, take, drop}
+use Rattle.std.proofs.Common.{◌≡◌, refl, List, [], ◌∷◌, ◌++◌, ℕ, zero, suc, ◌+◌, ◌*◌, ◌<◌, ◌≤◌, arith, le_of_suc-le-suc, not-suc-le-zero, length, get_or, take, drop}
 use lib.Seq.{take-length, drop-length}
 use Rattle.laws.specs.Elements.{sum}
 use Rattle.laws.specs.Units.{Kind, fixed, free, rows, width, widths, strip, Fits, All}

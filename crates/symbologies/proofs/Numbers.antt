@@ -6,16 +6,10 @@
 --   only-five, only_two    only Interleaved asks for an even count, and only full ASCII for fewer characters than there are places
 --   only-seven         only EAN-13 has rows that belong to no characters
 --   room_small         places are room enough
---   step-some          every step is at least 1; lengths-small, and steps and bases are small
+--   step_some          every step is at least 1; lengths-small, and steps and bases are small
 --
 -- Assumes nothing.
-use mathlib.Core.Path.{◌≡◌, refl}
-use mathlib.Core.Bool.{Bool, true, false, ◌&&◌}
-use mathlib.Core.List.{List, [], ◌∷◌}
-use Prim.Native.Nat.{ℕ, zero, suc, ◌<◌, ◌≤◌}
-use lib.Dec.{ltb, leb, eqb}
-use lib.ListN.{length, drop}
-use borrow.Author.Tests.{ltb-true, leb-true, eqb-true}
+use Rattle.std.proofs.Common.{◌≡◌, refl, Bool, true, false, ◌&&◌, List, [], ◌∷◌, ℕ, zero, suc, ◌<◌, ◌≤◌, ltb, leb, eqb, length, drop, ltb-true, leb-true, eqb-true}
 use Rattle.laws.proofs.Finite.{both_left, both_right, Each, each_at}
 use Rattle.laws.specs.Rules.{Rule}
 use Rattle.tables.specs.TwoOfFive.{alphabet_digits}
@@ -44,14 +38,14 @@ lines-each test (y ∷ ys) t = (both_left (test y) (all_lines test ys) t, lines-
 pub by-test : (test : Symbology → Bool) → all_lines test symbologies ≡ true → test (digits unknown no_check [] each) ≡ true → (s : ℕ) → test (symbology_of s) ≡ true
 by-test test t u = by_number (λ (y : Symbology). test y ≡ true) (lines-each test symbologies t) u
 
-pub three-modes : (s : ℕ) → length (symbology_of s).limits.most ≡ 3
-three-modes s = eqb-true (length (symbology_of s).limits.most) 3 (by-test (λ (y : Symbology). eqb (length y.limits.most) 3) (unfold symbologies in refl) refl s)
+pub three-modes : (s : ℕ) → length (symbology_of s).limits.modes ≡ 3
+three-modes s = eqb-true (length (symbology_of s).limits.modes) 3 (by-test (λ (y : Symbology). eqb (length y.limits.modes) 3) (unfold symbologies in refl) refl s)
 
 pub room_small : (s : ℕ) → (symbology_of s).limits.room ≤ places
 room_small s = leb-true (symbology_of s).limits.room places (by-test (λ (y : Symbology). leb y.limits.room places) (unfold symbologies in refl) refl s)
 
-pub step-some : (s : ℕ) → 0 < (symbology_of s).limits.step
-step-some s = ltb-true 0 (symbology_of s).limits.step (by-test (λ (y : Symbology). ltb 0 y.limits.step) (unfold symbologies in refl) refl s)
+pub step_some : (s : ℕ) → 0 < (symbology_of s).limits.step
+step_some s = ltb-true 0 (symbology_of s).limits.step (by-test (λ (y : Symbology). ltb 0 y.limits.step) (unfold symbologies in refl) refl s)
 
 abbrev small : Limits → Bool
 small l = (leb l.step 20 && leb l.more 40) && (leb l.each 20 && leb l.rest 40)

@@ -1,6 +1,6 @@
--- One answer for each input of this crate's public functions, and one content of what is lent to them.
+-- One answer for each input of this crate's public functions, and one content of the row that is lent to them.
 -- Assumes nothing.
-use mathlib.Core.Path.{ap}
+use Rattle.std.proofs.Common.{ap}
 use Rattle.laws.specs.One.{One, OneBuffer}
 use Rattle.laws.proofs.Only.{only}
 use Rattle.symbologies.proofs.judging.judge_field.Reads as JudgeField
@@ -15,16 +15,11 @@ use Rattle.symbologies.proofs.lengths.modules_of.Reads as ModulesOf
 use Rattle.symbologies.proofs.lengths.modules_of.Kinds as ModulesOfKinds
 use Rattle.symbologies.proofs.lengths.count_for.Reads as CountFor
 use Rattle.symbologies.proofs.lengths.count_for.Kinds as CountForKinds
-use Rattle.symbologies.specs.declared.row.Filled.{Filled}
 use Rattle.symbologies.specs.Told.{Rowed}
 use Rattle.symbologies.proofs.row.refuse.Reads as Refuse
 use Rattle.symbologies.proofs.row.refuse.Kinds as RefuseKinds
 use Rattle.symbologies.proofs.row.give.Reads as Give
 use Rattle.symbologies.proofs.row.give.Kinds as GiveKinds
-
--- the answer of an outcome as the code holds it
-abbrev pub filled : Rowed → Filled
-filled w = record { verdict = w.verdict; len = w.row.len }
 
 pub judge-field : One 1 JudgeFieldKinds.ps JudgeFieldKinds.r JudgeField.Learnt
 judge-field κs a p q x y = only
@@ -45,10 +40,13 @@ pub count-for : One 0 CountForKinds.ps CountForKinds.r CountFor.Learnt
 count-for κs a p q x y = only
 
 pub refuse : One 1 RefuseKinds.ps RefuseKinds.r Refuse.Learnt
-refuse κs a p q x y h k = ap filled (only h k)
+refuse κs a p q x y h k = ap (λ (w : Rowed). w.verdict) (only h k)
 
 pub refuse-places : OneBuffer 1 RefuseKinds.ps RefuseKinds.r (λ κs x. x.1.0.now) Refuse.Learnt
-refuse-places κs a p q x y h k = ap (λ (w : Rowed). w.row.codes) (only h k)
+refuse-places κs a p q x y h k = ap (λ (w : Rowed). w.row) (only h k)
 
-pub give : One 0 GiveKinds.ps GiveKinds.r Give.Learnt
-give κs a p q x y = only
+pub give : One 1 GiveKinds.ps GiveKinds.r Give.Learnt
+give κs a p q x y h k = only h.0 k.0
+
+pub give-row : OneBuffer 1 GiveKinds.ps GiveKinds.r (λ κs x. x.1.0.now) Give.Learnt
+give-row κs a p q x y h k = only h.1 k.1

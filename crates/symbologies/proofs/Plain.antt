@@ -6,15 +6,9 @@
 --   data-long     as many as the data of one that reads
 --
 -- Assumes nothing.
-use mathlib.Core.Path.{◌≡◌, sym, ap, ◌∙◌}
-use mathlib.Core.Bool.{true}
-use mathlib.Core.List.{List, map, append-nil}
-use Prim.Native.Nat.{ℕ, suc, ◌-◌, ◌<◌, ◌≤◌}
-use native.Mathlib.Omega.{arith}
+use Rattle.std.proofs.Common.{◌≡◌, sym, ap, ◌∙◌, true, List, map, append-nil, ℕ, suc, ◌-◌, ◌<◌, ◌≤◌, arith, length, take, drop_of_length-le, take_all, length-take-le, eq-eqb, ne_eqb}
 use native.Mathlib.Decide.{ℕ_discrete}
-use lib.ListN.{length, take, length-map, drop_of_length-le}
-use lib.Seq.{take_all, length-take-le}
-use borrow.Author.Tests.{eq-eqb, ne_eqb}
+use lib.ListN.{length-map}
 use Rattle.laws.specs.Units.{found}
 use Rattle.laws.specs.Spelling.{unspell}
 use Rattle.laws.specs.Rules.{place_of}

@@ -7,16 +7,9 @@
 --   same-data   so two data that give one row are the same, zeros at the front counted (for the reader: demand 3 says it of strips)
 --
 -- Assumes nothing.
-use mathlib.Core.Path.{◌≡◌, refl, sym, ◌∙◌}
-use mathlib.Core.Logic.{◌↔◌, ◌⊎◌, inl, inr, ◌≢◌}
-use mathlib.Core.Bool.{Bool, true, false, ◌&&◌}
-use mathlib.Core.List.{List, []}
-use Prim.Native.Nat.{ℕ, zero, suc, ◌+◌, ◌-◌, ◌<◌, ◌≤◌}
-use native.Mathlib.Omega.{arith}
+use Rattle.std.proofs.Common.{◌≡◌, refl, sym, ◌∙◌, ap, ◌↔◌, ◌⊎◌, inl, inr, ◌≢◌, Bool, true, false, ◌&&◌, List, [], ℕ, zero, suc, ◌+◌, ◌-◌, ◌<◌, ◌≤◌, arith, eqb, ltb, leb, lit≤, length, ltb-true, leb-true, eqb-true}
 use native.Mathlib.Decide.{ℕ_discrete, dec_lt}
-use lib.Dec.{eqb, ltb, leb, lit≤}
-use lib.ListN.{length, get_or, get_or-eq_default}
-use borrow.Author.Tests.{ltb-true, leb-true, eqb-true}
+use lib.ListN.{get_or-eq_default}
 use Rattle.laws.specs.Search.{pick, upto}
 use Rattle.laws.specs.Spelling.{Place, Coder}
 use Rattle.laws.specs.Rules.{Rule}
@@ -30,7 +23,7 @@ use Rattle.tables.specs.Codabar.{table41, alphabet_codabar}
 use Rattle.tables.specs.TwoOfFive.{table44, alphabet_digits}
 use Rattle.symbologies.specs.declared.limits.Limits.{Limits}
 use Rattle.symbologies.specs.Sizes.{places}
-use Rattle.symbologies.specs.Limits.{◌to◌, takes, unknown, offered, added}
+use Rattle.symbologies.specs.Limits.{◌to◌, takes, unknown, offered, added, least_of, most_of, none}
 use Rattle.symbologies.specs.Coders.{anywhere, raw_coder, full_coder, full}
 use Rattle.symbologies.specs.Checks.{by43, right10, no_check}
 use Rattle.symbologies.specs.Parts.{Part, Shows, each}
@@ -45,24 +38,24 @@ use Rattle.symbologies.proofs.Undo.{drew, drawn, reads, read, undone, redone}
 -- ---- the limits, by one test of the three modes
 
 abbrev count-test : Limits → ℕ → Bool
-count-test l m = pick (offered l m) (ltb 0 (get_or l.least m 0) && leb (get_or l.most m 0 + added m) l.room) true
+count-test l m = pick (offered l m) (ltb 0 (least_of l m) && leb (most_of l m + added m) l.room) true
 
 -- a mode past 2 is never offered
-in_three : (l : Limits) (m : ℕ) → length l.most ≡ 3 → offered l m ≡ true → m < 3
+in_three : (l : Limits) (m : ℕ) → length l.modes ≡ 3 → offered l m ≡ true → m < 3
 in_three l m n o = go (dec_lt m 3)
   where
     go : Dec (m < 3) → m < 3
     go (yes h) = h
-    go (no h) = absurd (omega (arith, get_or-eq_default l.most 0 {n = m} (omega arith), ltb-true 0 (get_or l.most m 0) o))
+    go (no h) = absurd (omega (arith, ap (λ (p : ℕ × ℕ). p.1) (get_or-eq_default l.modes none {n = m} (omega arith)), ltb-true 0 (most_of l m) o))
 
-counted : (y : Symbology) → length y.limits.most ≡ 3 → upto 3 (count-test y.limits) ≡ true → (m : ℕ) → offered y.limits m ≡ true → Counts y m
+counted : (y : Symbology) → length y.limits.modes ≡ 3 → upto 3 (count-test y.limits) ≡ true → (m : ℕ) → offered y.limits m ≡ true → Counts y m
 counted y n t m o =
     let l : Limits = y.limits in
     let h : m < 3 = in_three l m n o in
-    let c : (ltb 0 (get_or l.least m 0) && leb (get_or l.most m 0 + added m) l.room) ≡ true = rw o at (upto-at 3 (count-test l) t m h) in
+    let c : (ltb 0 (least_of l m) && leb (most_of l m + added m) l.room) ≡ true = rw o at (upto-at 3 (count-test l) t m h) in
     record {
-      some = ltb-true 0 _ (both_left _ (leb (get_or l.most m 0 + added m) l.room) c);
-      cap = leb-true _ l.room (both_right (ltb 0 (get_or l.least m 0)) _ c);
+      some = ltb-true 0 _ (both_left _ (leb (most_of l m + added m) l.room) c);
+      cap = leb-true _ l.room (both_right (ltb 0 (least_of l m)) _ c);
       mode = h;
     }
 
@@ -78,14 +71,14 @@ module _ (y : Symbology) (n : ℕ) (same : (p : Place) (v : ℕ) → y.allowed p
   }
 
 -- modes 1 and 2 are not offered
-checkless : (y : Symbology) → length y.limits.most ≡ 3 → upto 2 (λ i. eqb (get_or y.limits.most (suc i) 0) 0) ≡ true → (m : ℕ) → offered y.limits m ≡ true → m ≢ 0 → Checked y m
+checkless : (y : Symbology) → length y.limits.modes ≡ 3 → upto 2 (λ i. eqb (most_of y.limits (suc i)) 0) ≡ true → (m : ℕ) → offered y.limits m ≡ true → m ≢ 0 → Checked y m
 checkless y k t zero o z = absurd (z refl)
 checkless y k t (suc m) o z = go (dec_lt m 2)
   where
     go : Dec (m < 2) → Checked y (suc m)
     go (yes h) =
-        absurd (omega (arith, eqb-true (get_or y.limits.most (suc m) 0) 0 (upto-at 2 (λ i. eqb (get_or y.limits.most (suc i) 0) 0) t m h), ltb-true 0 (get_or y.limits.most (suc m) 0) o))
-    go (no h) = absurd (omega (arith, get_or-eq_default y.limits.most 0 {n = suc m} (omega arith), ltb-true 0 (get_or y.limits.most (suc m) 0) o))
+        absurd (omega (arith, eqb-true (most_of y.limits (suc m)) 0 (upto-at 2 (λ i. eqb (most_of y.limits (suc i)) 0) t m h), ltb-true 0 (most_of y.limits (suc m)) o))
+    go (no h) = absurd (omega (arith, ap (λ (p : ℕ × ℕ). p.1) (get_or-eq_default y.limits.modes none {n = suc m} (omega arith)), ltb-true 0 (most_of y.limits (suc m)) o))
 
 digits_same : (p : Place) (v : ℕ) → anywhere alphabet_digits p v ≡ ltb v 10
 unfolding alphabet_digits table44
@@ -113,7 +106,7 @@ behind-43 = refl
 
 -- ---- each line
 
-digital : (l : Limits) (r : Rule) (ps : List Part) (f : Shows) → length l.most ≡ 3 → upto 3 (count-test l) ≡ true → l.room ≤ places
+digital : (l : Limits) (r : Rule) (ps : List Part) (f : Shows) → length l.modes ≡ 3 → upto 3 (count-test l) ≡ true → l.room ≤ places
     → ((m : ℕ) → offered l m ≡ true → m ≢ 0 → Checked (digits l r ps f) m) → Proper (digits l r ps f)
 digital l r ps f n t s c = record {
   valid = λ m. plain-digits.0;
@@ -130,7 +123,7 @@ unoffered : Proper (digits unknown no_check [] each)
 unoffered = digital unknown no_check [] each refl refl (lit≤ tt) (checkless (digits unknown no_check [] each) refl refl)
 
 -- digits with a check by ten
-by_ten : (l : Limits) (ps : List Part) (f : Shows) → length l.most ≡ 3 → upto 3 (count-test l) ≡ true → l.room ≤ places → Proper (digits l right10 ps f)
+by_ten : (l : Limits) (ps : List Part) (f : Shows) → length l.modes ≡ 3 → upto 3 (count-test l) ≡ true → l.room ≤ places → Proper (digits l right10 ps f)
 by_ten l ps f n t s =
     digital l right10 ps f n t s (λ m o z. tens m (counted (digits l right10 ps f) n t m o))
   where
@@ -138,7 +131,7 @@ by_ten l ps f n t s =
     tens m c = last-checked (digits l right10 ps f) 10 digits_same modulus-10 check-10 behind-10 m c sound-right
 
 -- Code 39, whose characters draw themselves or by full ASCII
-by-43 : (l : Limits) (k : ℕ → Coder) → length l.most ≡ 3 → upto 3 (count-test l) ≡ true → l.room ≤ places → ((m : ℕ) → Valid (k m)) → ((m : ℕ) → Keeps (anywhere alphabet39) (k m))
+by-43 : (l : Limits) (k : ℕ → Coder) → length l.modes ≡ 3 → upto 3 (count-test l) ≡ true → l.room ≤ places → ((m : ℕ) → Valid (k m)) → ((m : ℕ) → Keeps (anywhere alphabet39) (k m))
     → ((m : ℕ) → Single (k m)) ⊎ ((m : ℕ) → offered l m ≡ true → Loose (code39 l k) m) → EndsAlone (k 1) → Proper (code39 l k)
 by-43 l k n t s v w e a = record {
   valid = v;

@@ -15,17 +15,9 @@
 --   few-elements, few    a strip has at most as many elements as the longest
 --
 -- Assumes nothing.
-use mathlib.Core.Path.{◌≡◌, refl, ap}
-use mathlib.Core.Logic.{◌≢◌}
-use mathlib.Core.Bool.{Bool, true, false}
-use mathlib.Core.List.{List, [], ◌∷◌}
-use Prim.Native.Nat.{ℕ, zero, suc, ◌+◌, ◌-◌, ◌/◌, ◌^◌, ◌<◌, ◌≤◌}
-use native.Mathlib.Omega.{arith}
-use native.Mathlib.Nat.{le_of_suc-le-suc, not-suc-le-zero, mod-lt, mul-le-mul_left}
+use Rattle.std.proofs.Common.{◌≡◌, refl, ap, ◌≢◌, Bool, true, false, List, [], ◌∷◌, ℕ, zero, suc, ◌+◌, ◌-◌, ◌/◌, ◌^◌, ◌<◌, ◌≤◌, arith, le_of_suc-le-suc, not-suc-le-zero, mod-lt, mul-le-mul_left, eqb, ltb, leb, lit<, length, take, drop, length-drop, ltb-true, leb-true, ne_eqb}
 use native.Mathlib.Decide.{ℕ_discrete}
-use lib.Dec.{eqb, ltb, leb, lit<}
-use lib.ListN.{length, get_or, take, drop, length-drop}
-use borrow.Author.Tests.{ltb-true, leb-true, ne_eqb, eqb-false}
+use borrow.Author.Tests.{eqb-false}
 use Rattle.laws.specs.Units.{fixed, free, Fits, All}
 use Rattle.laws.specs.Shapes.{many}
 use Rattle.laws.proofs.Finite.{both_left, both_right, both_true, From}
@@ -42,7 +34,7 @@ use Rattle.tables.specs.Ean.{table52, patterns, odd_rows, even_rows, left_rows, 
 use Rattle.tables.proofs.Good.{uniform39, uniform-matrix, good-inner, uniform-letter, uniform-industrial, uniform-interleaved, uniform-odd, uniform-right, uniform-left}
 use Rattle.symbologies.specs.declared.limits.Limits.{Limits}
 use Rattle.symbologies.specs.Sizes.{longest}
-use Rattle.symbologies.specs.Limits.{offered, added, elements_in}
+use Rattle.symbologies.specs.Limits.{offered, added, elements_in, most_of}
 use Rattle.symbologies.specs.Coders.{placed}
 use Rattle.symbologies.specs.Parts.{parted, bare, part_units, between, starred, lettering, industrial, interleaved, matrix, halved, lowered, paired, sides, sided}
 use Rattle.symbologies.specs.Symbologies.{Symbology, symbologies, symbology_of}
@@ -301,7 +293,7 @@ all-good s n =
 -- ---- how many elements: no mode of any line draws more than the longest
 
 abbrev roomy : Limits → ℕ → Bool
-roomy l m = leb (elements_in l (get_or l.most m 0 + added m)) longest
+roomy l m = leb (elements_in l (most_of l m + added m)) longest
 
 all-roomy : (s : ℕ) → in-modes (symbology_of s).limits (roomy (symbology_of s).limits) ≡ true
 all-roomy = by-test (λ (y : Symbology). in-modes y.limits (roomy y.limits)) (unfold symbologies in refl) refl
@@ -312,7 +304,7 @@ few-elements s n =
     by_mode s n
     (λ m b.
     let l : Limits = (symbology_of s).limits in
-    let high : ℕ = get_or l.most m 0 + added m in
+    let high : ℕ = most_of l m + added m in
     omega (arith, mul-le-mul_left l.step b.most, leb-true (elements_in l high) longest (mode-at s n m (roomy l) (all-roomy s) b)))
 
 pub few : (s : ℕ) (r : List ℕ) → ready s r ≡ true → elements_of s (length r) ≤ longest

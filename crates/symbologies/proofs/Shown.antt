@@ -5,11 +5,8 @@
 --   shown-row   so it is for every row that is seen
 --
 -- Assumes nothing.
-use mathlib.Core.Path.{◌≡◌, sym, ap, ◌∙◌}
-use mathlib.Core.Bool.{true, false}
-use mathlib.Core.List.{List}
-use Prim.Native.Nat.{ℕ}
-use lib.ListN.{length, length-map}
+use Rattle.std.proofs.Common.{◌≡◌, sym, ap, ◌∙◌, true, false, List, ℕ, length}
+use lib.ListN.{length-map}
 use borrow.Author.Tests.{not-false}
 use Rattle.laws.specs.Units.{read}
 use Rattle.laws.proofs.Spelling.{counted-length}

@@ -9,17 +9,10 @@
 --   undone, redone  what is drawn reads, and what reads is drawn, for a symbology that is proper
 --
 -- Assumes nothing.
-use mathlib.Core.Path.{◌≡◌, refl, sym, ap, ◌∙◌}
-use mathlib.Core.Logic.{◌≢◌, ◌⊎◌, inl, inr}
-use mathlib.Core.Bool.{Bool, true, false, ◌&&◌, not}
-use mathlib.Core.List.{List, [], ◌∷◌, ◌++◌}
-use Prim.Native.Nat.{ℕ, ◌+◌, ◌-◌, ◌<◌, ◌≤◌}
-use native.Mathlib.Omega.{arith}
+use Rattle.std.proofs.Common.{◌≡◌, refl, sym, ap, ◌∙◌, ◌≢◌, ◌⊎◌, inl, inr, Bool, true, false, ◌&&◌, not, List, [], ◌∷◌, ◌++◌, ℕ, ◌+◌, ◌-◌, ◌<◌, ◌≤◌, arith, eqb, ltb, leb, length, take, eq-eqb, ne_eqb, ltb-false, leb-true, le-leb, le-ltb}
 use native.Mathlib.Decide.{ℕ_discrete}
-use lib.Dec.{eqb, ltb, leb}
-use lib.ListN.{length, get_or, take}
 use lib.Seq.{take-length, drop-length}
-use borrow.Author.Tests.{eq-eqb, ne_eqb, ltb-false, leb-true, le-leb, le-ltb, not-true, not-false}
+use borrow.Author.Tests.{not-true, not-false}
 use Rattle.laws.specs.Search.{pick}
 use Rattle.laws.specs.Units.{Reading, found, stopped}
 use Rattle.laws.specs.Spelling.{stands, Coder, took, spell}
@@ -30,19 +23,19 @@ use Rattle.laws.proofs.Rules.{long-without, checked-long, checked-others, passin
 use Rattle.words.specs.Order.{Check, gives, turned}
 use Rattle.words.proofs.Order.{None, none-on, given}
 use Rattle.symbologies.specs.declared.limits.Limits.{Limits}
-use Rattle.symbologies.specs.Limits.{offered, holds, odd, added, drawable}
+use Rattle.symbologies.specs.Limits.{offered, holds, odd, added, drawable, least_of, most_of}
 use Rattle.symbologies.specs.Symbologies.{Symbology, symbology_of}
 use Rattle.symbologies.specs.Rows.{stops, finds, wrong, spelled, row_drawn, unclean, row_checks, row_of_field, row_of, chars_read, unspelled, data_read, count_checks, data_checks, data_of_count, data_of}
 use Rattle.symbologies.proofs.Coders.{Single}
 use Rattle.symbologies.proofs.Asked.{Counts, EndsAlone, Loose, Proper}
 
-pub held : (l : Limits) (m n : ℕ) → holds l m n ≡ true → (get_or l.least m 0 ≤ n) × (n ≤ get_or l.most m 0)
+pub held : (l : Limits) (m n : ℕ) → holds l m n ≡ true → (least_of l m ≤ n) × (n ≤ most_of l m)
 held l m n e = (
-  leb-true _ n (both_left (leb (get_or l.least m 0) n) (leb n (get_or l.most m 0)) e),
-  leb-true n _ (both_right (leb (get_or l.least m 0) n) (leb n (get_or l.most m 0)) e),
+  leb-true _ n (both_left (leb (least_of l m) n) (leb n (most_of l m)) e),
+  leb-true n _ (both_right (leb (least_of l m) n) (leb n (most_of l m)) e),
 )
 
-hold : (l : Limits) (m n : ℕ) → get_or l.least m 0 ≤ n → n ≤ get_or l.most m 0 → holds l m n ≡ true
+hold : (l : Limits) (m n : ℕ) → least_of l m ≤ n → n ≤ most_of l m → holds l m n ≡ true
 hold l m n a b = rw (le-leb _ n a, le-leb n _ b)
 
 pub empty-rest : (d : List ℕ) → unclean (length d) d ≡ false
@@ -218,7 +211,7 @@ module _ (y : Symbology) (p : Proper y) (m : ℕ) (o : offered y.limits m ≡ tr
   holds-forth : (d h : List ℕ) → spelled y m d ≡ found h → length h + added m ≤ y.limits.room → holds y.limits m (length d) ≡ true → holds y.limits m (length h) ≡ true
   holds-forth d h e f c = go p.spread
     where
-      b : (get_or y.limits.least m 0 ≤ length d) × (length d ≤ get_or y.limits.most m 0)
+      b : (least_of y.limits m ≤ length d) × (length d ≤ most_of y.limits m)
       b = held y.limits m (length d) c
 
       go : ((m : ℕ) → Single (y.coder m)) ⊎ ((m : ℕ) → offered y.limits m ≡ true → Loose y m) → holds y.limits m (length h) ≡ true
@@ -228,13 +221,13 @@ module _ (y : Symbology) (p : Proper y) (m : ℕ) (o : offered y.limits m ≡ tr
   holds-back : (d h : List ℕ) → spelled y m d ≡ found h → holds y.limits m (length h) ≡ true → holds y.limits m (length d) ≡ true
   holds-back d h e c = go p.spread
     where
-      b : (get_or y.limits.least m 0 ≤ length h) × (length h ≤ get_or y.limits.most m 0)
+      b : (least_of y.limits m ≤ length h) × (length h ≤ most_of y.limits m)
       b = held y.limits m (length h) c
 
       some : 0 < length h
       some = omega (arith, (p.counts m o).some, b.0)
 
-      few : (d : List ℕ) → spelled y m d ≡ found h → (get_or y.limits.least m 0 ≤ 1) ⊎ ((m ≡ 1) × (get_or y.limits.least m 0 ≤ 2)) → get_or y.limits.least m 0 ≤ length d
+      few : (d : List ℕ) → spelled y m d ≡ found h → (least_of y.limits m ≤ 1) ⊎ ((m ≡ 1) × (least_of y.limits m ≤ 2)) → least_of y.limits m ≤ length d
       few [] e w = absurd (omega (arith, some, ap length (found-nil h e)))
       few (x ∷ []) e (inl w) = omega arith
       few (x ∷ []) e (inr w) = omega (arith, lone (y.coder m) (rw w.0 p.ends) x h e, b.0)
@@ -269,7 +262,7 @@ module _ (y : Symbology) (p : Proper y) (m : ℕ) (d r : List ℕ) where
 
   pub redone : Reads y m d r → Drew y m d r
   redone a =
-      let g : (get_or y.limits.least m 0 ≤ length r - added m) × (length r - added m ≤ get_or y.limits.most m 0) = held y.limits m (length r - added m) a.count in
+      let g : (least_of y.limits m ≤ length r - added m) × (length r - added m ≤ most_of y.limits m) = held y.limits m (length r - added m) a.count in
       let c : Counts y m = p.counts m a.offers in
       let b : m ≡ 2 → y.rule.behind < length r
       = λ q. omega (arith, (p.checked m a.offers (omega arith)).enough, g.0, two m q, c.some) in

@@ -1,94 +1,112 @@
--- The refusals that limits decide, in their order: the returns of `judge_field`, `judge_drawn` and `judge_count`, each by what the tests before it
--- said; and what a verdict says of the checks that it is made of.
+-- The refusals that limits decide, in their order: the returns of `judge_field` and `judge_count`, each by what the tests before it said; and
+-- what a verdict says of the checks that it is made of.
 --
---   judged-none, judged-turned    nothing against it: no check applies; an answer: the checks turn away with it
---   no-symbology, no_mode, bad-count, short-field, not-zero, all-zeros    1, 2, 3, 13 of a field
+--   judged-given, judged-none    nothing against it: no check applies
+--   judged-err, judged-turned    an answer: the checks turn away with it
+--   judged-first                 the first checks' answer is that of more
+--   Offered, offered-by          limits that a mode is offered with; no-field, no-count, without them 1 or 2 is the answer
+--   bad-count, not-zero, all-zeros    3, 13 of a field
 --   Held, field-held              a field that passes: its mode, its count, its bytes
---   odd-count, too_many, may-draw    5, 6 of a number of drawn characters; drawn-few, what passes has places
---   not_known, not-offered, not-held, not-even, all-passed    1, 2, 9 of one that is read
+--   drawn-few                    what passes 5 and 6 has places
+--   not-held, not-even, is-drawable    9 of one that is read
 --
 -- Assumes nothing.
-use mathlib.Core.Path.{◌≡◌, refl}
-use mathlib.Core.Bool.{Bool, true, false, ◌&&◌, not}
-use mathlib.Core.List.{List, [], ◌∷◌}
-use Prim.Native.Nat.{ℕ, ◌+◌, ◌-◌, ◌<◌, ◌≤◌}
-use native.Mathlib.Omega.{arith}
-use lib.Dec.{leb}
-use lib.ListN.{length, take, drop, length-drop}
-use lib.Seq.{length-take-le}
-use borrow.Author.Tests.{not-true, not-false, lt-ltb, le-ltb, ltb-false, le-leb, lt-leb, leb-true}
+use Rattle.std.proofs.Common.{◌≡◌, refl, sym, ◌∙◌, ◌⊎◌, inl, inr, Bool, true, false, ◌&&◌, not, List, [], ◌∷◌, ◌++◌, ℕ, ◌+◌, ◌-◌, ◌<◌, ◌≤◌, arith, leb, length, take, drop, length-take-le, ltb-false, le-leb, leb-true, Result, Ok, Err}
+use borrow.Author.Tests.{not-false, lt-leb}
 use Rattle.laws.specs.Search.{pick}
 use Rattle.laws.proofs.Finite.{both_left, both_right}
 use Rattle.words.specs.declared.Answer.{Answer}
-use Rattle.words.specs.declared.Answer.TheVariants.{NoSymbology, NoMode, BadCount, OddCount, TooManyDrawn, BadLength, FieldNotZero}
-use Rattle.words.specs.Order.{Check, first_of, data_place}
-use Rattle.words.proofs.Order.{None}
+use Rattle.words.specs.declared.Answer.TheVariants.{BadCount, BadLength, FieldNotZero}
+use Rattle.words.specs.Order.{Check, check, first_of, data_place}
+use Rattle.words.proofs.Order.{None, first-append, none-on}
 use Rattle.symbologies.specs.declared.limits.Limits.{Limits}
-use Rattle.symbologies.specs.declared.judging.Verdict.TheVariants.{Given, Turned}
 use Rattle.symbologies.specs.Sizes.{places}
-use Rattle.symbologies.specs.Limits.{offered, holds, odd, added}
-use Rattle.symbologies.specs.Symbologies.{symbology_of}
-use Rattle.symbologies.specs.Rows.{nonzero, unclean, field_checks, drawn_checks}
-use Rattle.symbologies.specs.Told.{judged_field, judged_drawn, judged_count}
+use Rattle.symbologies.specs.Limits.{holds, odd, added, drawable}
+use Rattle.symbologies.specs.Symbologies.{Symbology, symbology_of}
+use Rattle.symbologies.specs.Rows.{nonzero, unclean, offers, field_checks, drawn_checks}
+use Rattle.symbologies.specs.Told.{judged, limits_for, judged_field, judged_drawn, judged_count}
 use Rattle.symbologies.proofs.Asked.{Counts}
 use Rattle.symbologies.proofs.Undo.{held}
 use Rattle.symbologies.proofs.Proper.{proper}
 
 -- ---- a verdict and its checks
 
-pub judged-none : (cs : List Check) → first_of Turned cs Given ≡ Given → None cs
-judged-none [] e = tt
-judged-none (c ∷ cs) e = go c.applies refl (judged-none cs) e
+pub judged-given : {A : Type 0} (cs : List Check) (x y : A) → judged cs x ≡ Ok y → None cs × (x ≡ y)
+judged-given [] x y e = (tt, cc)
+judged-given (c ∷ cs) x y e = go c.applies refl (judged-given cs x y) e
   where
-    go : (b : Bool) → c.applies ≡ b → (first_of Turned cs Given ≡ Given → None cs) → pick b (Turned c.answer) (first_of Turned cs Given) ≡ Given → None (c ∷ cs)
-    go true t f e = let z : ◌≡◌ {A = ℕ} 0 1 = cc in absurd (omega arith)
-    go false t f e = (t, f e)
+    go : (b : Bool) → c.applies ≡ b → (judged cs x ≡ Ok y → None cs × (x ≡ y)) → pick b (Err c.answer) (judged cs x) ≡ Ok y → None (c ∷ cs) × (x ≡ y)
+    go true t f e = let n : ◌≡◌ {A = ℕ} 0 1 = cc in absurd (omega arith)
+    go false t f e = let p : None cs × (x ≡ y) = f e in ((t, p.0), p.1)
 
-pub judged-turned : {A : Type 0} (f : Answer → A) (cs : List Check) (x : Answer) (z : A) → first_of Turned cs Given ≡ Turned x → first_of f cs z ≡ f x
-judged-turned f [] x z e = let n : ◌≡◌ {A = ℕ} 0 1 = cc in absurd (omega arith)
-judged-turned f (c ∷ cs) x z e = go c.applies (judged-turned f cs x z) e
+pub judged-none : (cs : List Check) → judged cs (tt {0}) ≡ Ok (tt {0}) → None cs
+judged-none cs e = (judged-given cs (tt {0}) (tt {0}) e).0
+
+pub judged-err : {A B : Type 0} (f : Answer → B) (cs : List Check) (a : Answer) (x : A) (z : B) → judged cs x ≡ Err a → first_of f cs z ≡ f a
+judged-err f [] a x z e = let n : ◌≡◌ {A = ℕ} 0 1 = cc in absurd (omega arith)
+judged-err f (c ∷ cs) a x z e = go c.applies (judged-err f cs a x z) e
   where
-    go : (b : Bool) → (first_of Turned cs Given ≡ Turned x → first_of f cs z ≡ f x) → pick b (Turned c.answer) (first_of Turned cs Given) ≡ Turned x → pick b (f c.answer) (first_of f cs z) ≡ f x
-    go true h e = let q : c.answer ≡ x = cc in rw q
+    go : (b : Bool) → (judged cs x ≡ Err a → first_of f cs z ≡ f a) → pick b (Err c.answer) (judged cs x) ≡ Err a → pick b (f c.answer) (first_of f cs z) ≡ f a
+    go true h e = let q : c.answer ≡ a = cc in rw q
     go false h e = h e
 
--- ---- 1, 2, 3, 13
+pub judged-turned : {B : Type 0} (f : Answer → B) (cs : List Check) (a : Answer) (z : B) → judged cs (tt {0}) ≡ Err a → first_of f cs z ≡ f a
+judged-turned f cs a z e = judged-err f cs a (tt {0}) z e
 
-module _ (s m : ℕ) (l : Limits) (e : l ≡ (symbology_of s).limits) (count : ℕ) (field : List ℕ) where
-  pub no-symbology : not l.known ≡ true → Turned NoSymbology ≡ judged_field s m count field
+pub judged-first : {A B : Type 0} (cs ds : List Check) (a : Answer) (x : A) (y : B) → judged cs x ≡ Err a → judged (cs ++ ds) y ≡ Err a
+judged-first cs ds a x y e = first-append Err cs ds (Ok y) ∙ judged-err Err cs a x (judged ds y) e
+
+-- ---- 1, 2
+
+abbrev field_only : Symbology → ℕ → ℕ → List ℕ → List Check
+field_only y m count field =
+    check (not (holds y.limits m count && leb count (length field))) BadCount
+    ∷ check (unclean count field) (FieldNotZero (data_place (count + nonzero (drop count field))))
+    ∷ []
+
+abbrev count_only : Symbology → ℕ → ℕ → List Check
+count_only y m n = check (not (drawable y.limits m n)) BadLength ∷ []
+
+abbrev pub Offered : ℕ → ℕ → Limits → Type 0
+Offered s m l = None (offers (symbology_of s) m) × ((symbology_of s).limits ≡ l)
+
+module _ (s m : ℕ) (r : Result Limits Answer) (e : r ≡ limits_for s m) where
+  pub offered-by : (l : Limits) → r ≡ Ok l → Offered s m l
+  unfolding limits_for
+  offered-by l h = judged-given (offers (symbology_of s) m) (symbology_of s).limits l (sym e ∙ h)
+
+  turned-by : (a : Answer) (cs : List Check) → r ≡ Err a → Err a ≡ judged (offers (symbology_of s) m ++ cs) (tt {0})
+  unfolding limits_for
+  turned-by a cs h = sym (judged-first (offers (symbology_of s) m) cs a (symbology_of s).limits (tt {0}) (sym e ∙ h))
+
+  pub no-field : (count : ℕ) (field : List ℕ) (a : Answer) → r ≡ Err a → Err a ≡ judged_field s m count field
   unfolding judged_field
-  no-symbology p = rw (← e, p)
+  no-field count field a h = turned-by a (field_only (symbology_of s) m count field) h
 
-  module _ (k : not l.known ≡ false) (o : Bool) (eo : o ≡ offered l m) where
-    pub no_mode : not o ≡ true → Turned NoMode ≡ judged_field s m count field
-    unfolding judged_field
-    no_mode p = rw (← e, k, ← eo, p)
+  pub no-count : (n : ℕ) (a : Answer) → r ≡ Err a → Err a ≡ judged_count s m n
+  unfolding judged_count
+  no-count n a h = turned-by a (count_only (symbology_of s) m n) h
 
-    module _ (p : not o ≡ false) (h : Bool) (eh : h ≡ holds l m count) where
-      pub bad-count : not h ≡ true → Turned BadCount ≡ judged_field s m count field
-      unfolding judged_field
-      bad-count q = rw (← e, k, ← eo, p, ← eh, not-true h q)
+behind-offers : (s m : ℕ) (l : Limits) → Offered s m l → (cs : List Check) → judged (offers (symbology_of s) m ++ cs) (tt {0}) ≡ judged cs (tt {0})
+behind-offers s m l o cs = first-append Err (offers (symbology_of s) m) cs (Ok (tt {0})) ∙ none-on Err (offers (symbology_of s) m) (judged cs (tt {0})) o.0
 
-      module _ (q : not h ≡ false) where
-        pub short-field : length field < count → Turned BadCount ≡ judged_field s m count field
-        unfolding judged_field
-        short-field f = rw (← e, k, ← eo, p, ← eh, not-false h q, lt-leb count (length field) f)
+-- ---- 3, 13
 
-        module _ (f : count ≤ length field) (at : ℕ) (ea : at ≡ count + nonzero (drop count field)) where
-          rest-long : length (drop count field) ≡ length field - count
-          rest-long = length-drop count field
+module _ (s m : ℕ) (l : Limits) (o : Offered s m l) (count : ℕ) (field : List ℕ) (h : Bool) (eh : h ≡ holds l m count) where
+  field_rest : judged_field s m count field ≡ pick (not (h && leb count (length field))) (Err BadCount) (pick (unclean count field) (Err (FieldNotZero (data_place (count + nonzero (drop count field))))) (Ok (tt {0})))
+  unfolding judged_field
+  field_rest = behind-offers s m l o (field_only (symbology_of s) m count field) ∙ rw (o.1, ← eh)
 
-          pub not-zero : at < length field → Turned (FieldNotZero (data_place at)) ≡ judged_field s m count field
-          unfolding judged_field
-          not-zero g =
-              let u : unclean count field ≡ true = lt-ltb (nonzero (drop count field)) (length (drop count field)) (omega (arith, rest-long)) in
-              rw (← e, k, ← eo, p, ← eh, not-false h q, le-leb count (length field) f, u, ea)
+  pub bad-count : (h ≡ false) ⊎ ((h ≡ true) × (length field < count)) → Err BadCount ≡ judged_field s m count field
+  bad-count (inl q) = rw (field_rest, q)
+  bad-count (inr q) = rw (field_rest, q.0, lt-leb count (length field) q.1)
 
-          pub all-zeros : length field ≤ at → Given ≡ judged_field s m count field
-          unfolding judged_field
-          all-zeros g =
-              let u : unclean count field ≡ false = le-ltb (nonzero (drop count field)) (length (drop count field)) (omega (arith, rest-long)) in
-              rw (← e, k, ← eo, p, ← eh, not-false h q, le-leb count (length field) f, u)
+  module _ (q : h ≡ true) (f : count ≤ length field) where
+    pub not-zero : (i : ℕ) → (unclean count field ≡ true) × (i ≡ nonzero (drop count field)) → Err (FieldNotZero (data_place (count + i))) ≡ judged_field s m count field
+    not-zero i u = rw (field_rest, q, le-leb count (length field) f, u.0, u.1)
+
+    pub all-zeros : unclean count field ≡ false → Ok (tt {0}) ≡ judged_field s m count field
+    all-zeros u = rw (field_rest, q, le-leb count (length field) f, u)
 
 pub record Held (m count : ℕ) (field : List ℕ) : Type 0 where
   pub mode : m < 3
@@ -96,7 +114,7 @@ pub record Held (m count : ℕ) (field : List ℕ) : Type 0 where
   pub some : 0 < length (take count field)
   pub few : length (take count field) ≤ places
 
-pub field-held : (s m count : ℕ) (field : List ℕ) → judged_field s m count field ≡ Given → Held m count field
+pub field-held : (s m count : ℕ) (field : List ℕ) → judged_field s m count field ≡ Ok (tt {0}) → Held m count field
 unfolding judged_field
 field-held s m count field e =
     let n : None (field_checks (symbology_of s) m count field) = judged-none (field_checks (symbology_of s) m count field) e in
@@ -113,49 +131,22 @@ field-held s m count field e =
 
 -- ---- 5, 6
 
-module _ (s n : ℕ) (l : Limits) (e : l ≡ (symbology_of s).limits) (o : Bool) (eo : o ≡ odd l n) where
-  pub odd-count : o ≡ true → Turned OddCount ≡ judged_drawn s n
-  unfolding judged_drawn
-  odd-count p = rw (← e, ← eo, p)
-
-  module _ (p : o ≡ false) where
-    pub too_many : l.room < n → Turned TooManyDrawn ≡ judged_drawn s n
-    unfolding judged_drawn
-    too_many g = rw (← e, ← eo, p, lt-ltb l.room n g)
-
-    pub may-draw : n ≤ l.room → Given ≡ judged_drawn s n
-    unfolding judged_drawn
-    may-draw g = rw (← e, ← eo, p, le-ltb l.room n g)
-
-pub drawn-few : (s n : ℕ) → judged_drawn s n ≡ Given → n ≤ places
+pub drawn-few : (s n : ℕ) → judged_drawn s n ≡ Ok (tt {0}) → n ≤ places
 unfolding judged_drawn
 drawn-few s n e = omega (arith, ltb-false _ n (judged-none (drawn_checks (symbology_of s) n) e).1.0, (proper s).small)
 
--- ---- 1, 2, 9
+-- ---- 9
 
-module _ (s m n : ℕ) (l : Limits) (e : l ≡ (symbology_of s).limits) where
-  pub not_known : not l.known ≡ true → Turned NoSymbology ≡ judged_count s m n
+module _ (s m n : ℕ) (l : Limits) (o : Offered s m l) (d : ℕ) (ed : d ≡ n - added m) (h : Bool) (eh : h ≡ holds l m d) (b : Bool) (eb : b ≡ odd l n) where
+  count_rest : judged_count s m n ≡ pick (not (h && not b)) (Err BadLength) (Ok (tt {0}))
   unfolding judged_count
-  not_known p = rw (← e, p)
+  count_rest = behind-offers s m l o (count_only (symbology_of s) m n) ∙ rw (o.1, ← ed, ← eh, ← eb)
 
-  module _ (k : not l.known ≡ false) (o : Bool) (eo : o ≡ offered l m) where
-    pub not-offered : not o ≡ true → Turned NoMode ≡ judged_count s m n
-    unfolding judged_count
-    not-offered p = rw (← e, k, ← eo, p)
+  pub not-held : h ≡ false → Err BadLength ≡ judged_count s m n
+  not-held q = rw (count_rest, q)
 
-    module _ (p : not o ≡ false) (d : ℕ) (ed : d ≡ n - added m) (h : Bool) (eh : h ≡ holds l m d) where
-      is_held : (b : Bool) → h ≡ b → holds l m (n - added m) ≡ b
-      is_held b q = rw (← ed, ← eh) q
+  pub not-even : h ≡ true → b ≡ true → Err BadLength ≡ judged_count s m n
+  not-even q r = rw (count_rest, q, r)
 
-      pub not-held : not h ≡ true → Turned BadLength ≡ judged_count s m n
-      unfolding judged_count
-      not-held q = rw (← e, k, ← eo, p, is_held false (not-true h q))
-
-      module _ (q : not h ≡ false) (b : Bool) (eb : b ≡ odd l n) where
-        pub not-even : b ≡ true → Turned BadLength ≡ judged_count s m n
-        unfolding judged_count
-        not-even r = rw (← e, k, ← eo, p, is_held true (not-false h q), ← eb, r)
-
-        pub all-passed : b ≡ false → Given ≡ judged_count s m n
-        unfolding judged_count
-        all-passed r = rw (← e, k, ← eo, p, is_held true (not-false h q), ← eb, r)
+  pub is-drawable : h ≡ true → b ≡ false → Ok (tt {0}) ≡ judged_count s m n
+  is-drawable q r = rw (count_rest, q, r)

@@ -5,22 +5,15 @@
 --   row-few       a row that reads has 1 to as many characters as there are places; enough, and its check has its place
 --
 -- Assumes nothing.
-use mathlib.Core.Path.{◌≡◌}
-use mathlib.Core.Logic.{◌≢◌}
-use mathlib.Core.Bool.{true}
-use mathlib.Core.List.{List}
-use Prim.Native.Nat.{ℕ, ◌-◌, ◌<◌, ◌≤◌}
-use native.Mathlib.Omega.{arith}
+use Rattle.std.proofs.Common.{◌≡◌, ◌≢◌, true, List, ℕ, ◌-◌, ◌<◌, ◌≤◌, arith, length, eq-eqb, ne_eqb}
 use native.Mathlib.Decide.{ℕ_discrete}
-use lib.ListN.{length, get_or}
-use borrow.Author.Tests.{eq-eqb, ne_eqb}
 use Rattle.laws.specs.Weigh.{dot}
 use Rattle.laws.specs.Spelling.{fitting}
 use Rattle.laws.specs.Rules.{check_of, checked_of, passes}
 use Rattle.laws.proofs.Spelling.{spell-long}
 use Rattle.laws.proofs.Fitting.{spell-fitting}
 use Rattle.symbologies.specs.Sizes.{places}
-use Rattle.symbologies.specs.Limits.{added}
+use Rattle.symbologies.specs.Limits.{added, least_of}
 use Rattle.symbologies.specs.Symbologies.{Symbology}
 use Rattle.symbologies.proofs.Asked.{Counts, Proper}
 use Rattle.symbologies.proofs.Undo.{held, Drew, Reads, redone, passing}
@@ -47,7 +40,7 @@ module _ (y : Symbology) (p : Proper y) (m : ℕ) (d r : List ℕ) (a : Reads y 
       w : Drew y m d r
       w = redone y p m d r a
 
-      long : get_or y.limits.least m 0 ≤ length w.head
+      long : least_of y.limits m ≤ length w.head
       long = omega (arith, (held y.limits m (length d) w.count).0, spell-long (y.coder m) d w.head true 0 w.spells)
 
       spelt : fitting y.allowed true w.head ≡ true

@@ -6,6 +6,7 @@
 --                   elements and modules as step and base: a strip of n characters has one element less than step * n + more, and one
 --                   module less than so many for each character and the rest
 --   unknown         no symbology
+--   least_of, most_of    the data bytes that a mode takes, at least and at most
 --   offered         2: whether a mode is offered
 --   holds           3: whether a mode takes so many data bytes
 --   odd             5: whether the count must be even and is not
@@ -27,8 +28,7 @@ none = 0 to 0
 abbrev pub takes : ℕ × ℕ → ℕ × ℕ → ℕ × ℕ → Bool → ℕ → ℕ × ℕ → ℕ × ℕ → Limits
 takes a b c even room elements modules = record {
   known = true;
-  least = a.0 ∷ b.0 ∷ c.0 ∷ [];
-  most = a.1 ∷ b.1 ∷ c.1 ∷ [];
+  modes = a ∷ b ∷ c ∷ [];
   even = even;
   room = room;
   step = elements.0;
@@ -38,13 +38,19 @@ takes a b c even room elements modules = record {
 }
 
 abbrev pub unknown : Limits
-unknown = record { known = false; least = 0 ∷ 0 ∷ 0 ∷ []; most = 0 ∷ 0 ∷ 0 ∷ []; even = false; room = places; step = 1; more = 1; each = 0; rest = 0 }
+unknown = record { known = false; modes = none ∷ none ∷ none ∷ []; even = false; room = places; step = 1; more = 1; each = 0; rest = 0 }
+
+abbrev pub least_of : Limits → ℕ → ℕ
+least_of l m = (get_or l.modes m none).0
+
+abbrev pub most_of : Limits → ℕ → ℕ
+most_of l m = (get_or l.modes m none).1
 
 abbrev pub offered : Limits → ℕ → Bool
-offered l m = ltb 0 (get_or l.most m 0)
+offered l m = ltb 0 (most_of l m)
 
 abbrev pub holds : Limits → ℕ → ℕ → Bool
-holds l m n = leb (get_or l.least m 0) n && leb n (get_or l.most m 0)
+holds l m n = leb (least_of l m) n && leb n (most_of l m)
 
 abbrev pub odd : Limits → ℕ → Bool
 odd l n = l.even && eqb (n % 2) 1

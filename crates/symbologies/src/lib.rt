@@ -3,6 +3,9 @@
 //
 // In code a `match` on the number gives limits and lengths, once (`limits_of`); the others here are worked out from it.
 //
+// Stays numbers, here and in every crate: a symbology and a mode are any `u8`, since the promise of each public function is of every number, and
+// document 01 fixes the `match` on the number. An enum would be made of the number again in each function.
+//
 //   limits    what a symbology takes, by mode, and which drawn counts it has
 //   judging   the refusals that this alone decides
 //   lengths   elements, modules, and the count for a length

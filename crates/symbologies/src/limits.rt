@@ -11,8 +11,7 @@ use super::sizes::PLACES;
 #[derive(Clone, Copy)]
 pub struct Limits {
     pub known: bool,
-    pub least: [u8; 3],
-    pub most: [u8; 3],
+    pub modes: [(u8, u8); 3],
     pub even: bool,
     pub room: usize,
     pub step: usize,
@@ -21,23 +20,28 @@ pub struct Limits {
     pub rest: usize,
 }
 
+// The data bytes of a mode that is not offered.
+// Stays a pair of numbers: `holds` of specs/Limits.antt speaks of such a mode too, and there of 0 bytes alone.
+const NONE: (u8, u8) = (0, 0);
+
+// Up to 32 characters, of which one is the check in modes 1 and 2; mode 2 adds it.
+const UP_TO_32: [(u8, u8); 3] = [(1, 32), (2, 32), (1, 31)];
+
 // A line of the table, in its order: what modes 0, 1 and 2 take, whether the drawn count must be even, how many may be drawn, elements, modules.
 fn line(
-    least: [u8; 3],
-    most: [u8; 3],
+    modes: [(u8, u8); 3],
     even: bool,
     room: usize,
-    step: usize,
-    more: usize,
-    each: usize,
-    rest: usize,
+    elements: (usize, usize),
+    modules: (usize, usize),
 ) -> Limits
-    ensures { result ≡ record { known = true; least = least; most = most; even = even; room = room; step = step; more = more; each = each; rest = rest } }
+    ensures { result ≡ record { known = true; modes = modes; even = even; room = room; step = elements.0; more = elements.1; each = modules.0; rest = modules.1 } }
 {
+    let (step, more) = elements;
+    let (each, rest) = modules;
     Limits {
         known: true,
-        least,
-        most,
+        modes,
         even,
         room,
         step,
@@ -48,23 +52,24 @@ fn line(
 }
 
 // The limits and lengths of a symbology, by number; any other number is not known.
+// Stays a flag, `known`: `(symbology_of symbology).limits`, the promise, holds limits for every number, and `judge_drawn` and `lengths` read them.
+#[tactic(auto, unfolding(crate::specs::Symbologies::symbology_of, crate::specs::Symbologies::symbologies))]
 pub fn limits_of(symbology: u8) -> Limits
     ensures { result ≡ (symbology_of symbology).limits }
 {
     match symbology {
-        1 => line([1, 2, 1], [32, 32, 31], false, PLACES, 10, 20, 16, 32),
-        2 => line([1, 2, 1], [32, 32, 31], false, 32, 10, 20, 16, 32),
-        3 => line([3, 0, 0], [34, 0, 0], false, PLACES, 8, 0, 14, 0),
-        4 => line([1, 2, 1], [32, 32, 31], false, PLACES, 10, 12, 14, 20),
-        5 => line([1, 2, 1], [32, 32, 31], true, PLACES, 5, 8, 9, 10),
-        6 => line([1, 2, 1], [32, 32, 31], false, PLACES, 6, 12, 10, 16),
-        7 => line([0, 13, 12], [0, 13, 12], false, PLACES, 4, 8, 7, 5),
-        8 => line([0, 8, 7], [0, 8, 7], false, PLACES, 4, 12, 7, 12),
-        9 => line([0, 12, 11], [0, 12, 11], false, PLACES, 4, 12, 7, 12),
+        1 => line(UP_TO_32, false, PLACES, (10, 20), (16, 32)),
+        2 => line(UP_TO_32, false, 32, (10, 20), (16, 32)),
+        3 => line([(3, 34), NONE, NONE], false, PLACES, (8, 0), (14, 0)),
+        4 => line(UP_TO_32, false, PLACES, (10, 12), (14, 20)),
+        5 => line(UP_TO_32, true, PLACES, (5, 8), (9, 10)),
+        6 => line(UP_TO_32, false, PLACES, (6, 12), (10, 16)),
+        7 => line([NONE, (13, 13), (12, 12)], false, PLACES, (4, 8), (7, 5)),
+        8 => line([NONE, (8, 8), (7, 7)], false, PLACES, (4, 12), (7, 12)),
+        9 => line([NONE, (12, 12), (11, 11)], false, PLACES, (4, 12), (7, 12)),
         _ => Limits {
             known: false,
-            least: [0, 0, 0],
-            most: [0, 0, 0],
+            modes: [NONE; 3],
             even: false,
             room: PLACES,
             step: 1,
@@ -75,36 +80,29 @@ pub fn limits_of(symbology: u8) -> Limits
     }
 }
 
-// 2: whether a mode is offered.
-pub fn offers(limits: Limits, mode: u8) -> bool
-    ensures { result ≡ offered limits mode }
-{
-    let most = limits.most;
-    if mode < 3 {
-        0 < most[mode as usize]
-    } else {
-        false
+impl Limits {
+    // 2: whether a mode is offered.
+    pub fn offers(self, mode: u8) -> bool
+        ensures { result ≡ offered self mode }
+    {
+        mode < 3 && 0 < self.modes[mode as usize].1
     }
-}
 
-// 3: whether a mode takes so many data bytes. One that is not there takes none.
-pub fn takes(limits: Limits, mode: u8, count: usize) -> bool
-    ensures { result ≡ holds limits mode count }
-{
-    let least = limits.least;
-    let most = limits.most;
-    if 2 < mode {
-        return count == 0;
+    // 3: whether a mode takes so many data bytes. One that is not there takes none.
+    pub fn takes(self, mode: u8, count: usize) -> bool
+        ensures { result ≡ holds self mode count }
+    {
+        if 2 < mode {
+            return count == 0;
+        }
+        let (least, most) = self.modes[mode as usize];
+        least as usize <= count && count <= most as usize
     }
-    if count < least[mode as usize] as usize {
-        return false;
-    }
-    count <= most[mode as usize] as usize
-}
 
-// 5: whether the drawn count must be even and is not.
-pub fn is_odd(limits: Limits, count: usize) -> bool
-    ensures { result ≡ odd limits count }
-{
-    if limits.even { count % 2 == 1 } else { false }
+    // 5: whether the drawn count must be even and is not.
+    pub fn is_odd(self, count: usize) -> bool
+        ensures { result ≡ odd self count }
+    {
+        self.even && count % 2 == 1
+    }
 }

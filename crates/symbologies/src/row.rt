@@ -1,10 +1,8 @@
 // A row: the drawn characters, as values of their alphabet, in so many places, with their number.
-ghost use Rattle.std.specs.Prelude.{◌≡◌};
+ghost use Rattle.std.specs.Prelude.{◌≡◌, Ok};
 ghost use Rattle.words.specs.Order.{turned};
-ghost use Rattle.symbologies.specs.declared.judging.Verdict.TheVariants.{Given};
 ghost use Rattle.symbologies.specs.Told.{told, filled_as};
 
-use super::judging::Verdict;
 use super::sizes::PLACES;
 use words::Answer;
 
@@ -14,30 +12,27 @@ pub struct Row {
     pub len: usize,
 }
 
-// Whether lent places hold a row, and how many characters it has; where it is turned away they hold none.
-#[derive(Clone, Copy)]
-pub struct Filled {
-    pub verdict: Verdict,
-    pub len: usize,
-}
-
-// An answer; the places are cleared.
-pub fn refuse(answer: Answer, codes: &mut [u8; PLACES]) -> Filled
-    ensures { filled_as result codes.new ≡ told (turned answer) }
-{
-    *codes = [0; PLACES];
-    Filled {
-        verdict: Verdict::Turned(answer),
+impl Row {
+    // No characters.
+    pub const EMPTY: Row = Row {
+        codes: [0; PLACES],
         len: 0,
-    }
+    };
 }
 
-// A row of so many characters.
-pub fn give(len: usize) -> Filled
-    ensures { result ≡ record { verdict = Given; len = len } }
+// An answer that turns an input away; the lent row is emptied.
+pub fn refuse(answer: Answer, row: &mut Row) -> Result<(), Answer>
+    ensures { filled_as result row.new ≡ told (turned answer) }
 {
-    Filled {
-        verdict: Verdict::Given,
-        len,
-    }
+    *row = Row::EMPTY;
+    Err(answer)
+}
+
+// The lent row has so many characters.
+pub fn give(len: usize, row: &mut Row) -> Result<(), Answer>
+    ensures value { result ≡ Ok tt }
+    ensures row_after { row.new ≡ record { codes = row.old.codes; len = len } }
+{
+    row.len = len;
+    Ok(())
 }

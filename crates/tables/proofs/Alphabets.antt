@@ -5,10 +5,7 @@
 --   proper39, proper-codabar, proper-digits    the three alphabets
 --
 -- Assumes nothing.
-use mathlib.Core.Path.{◌≡◌, refl}
-use Prim.Native.Nat.{ℕ, ◌<◌, ◌≤◌}
-use lib.ListN.{length}
-use lib.Dec.{lit≤}
+use Rattle.std.proofs.Common.{◌≡◌, refl, ℕ, ◌<◌, ◌≤◌, length, lit≤}
 use Rattle.laws.specs.Search.{index_in, Distinct}
 use Rattle.laws.proofs.Search.{index-hit, index-own, distinct}
 use Rattle.tables.specs.Alphabet.{Alphabet, size, value_of, byte_of}

@@ -3,9 +3,7 @@
 --   drawn   byte by byte, from 20h to 7Fh
 --
 -- Assumes nothing.
-use mathlib.Core.Path.{◌≡◌, refl}
-use Prim.Native.Nat.{ℕ, ◌+◌, ◌<◌}
-use lib.ListN.{get_or}
+use Rattle.std.proofs.Common.{◌≡◌, refl, ℕ, ◌+◌, ◌<◌, get_or}
 use Rattle.laws.specs.Elements.{alike}
 use Rattle.laws.proofs.Finite.{upto-at}
 use Rattle.laws.proofs.Elements.{alike-true}

@@ -11,11 +11,7 @@
 --   uniform-odd, uniform-right, uniform-left    EAN and UPC: 10, 10 and (EAN-13's left side) 20 rows of four elements, 7 modules
 --
 -- Assumes nothing.
-use mathlib.Core.Path.{◌≡◌, refl}
-use mathlib.Core.Bool.{true}
-use mathlib.Core.List.{List}
-use Prim.Native.Nat.{ℕ}
-use native.Mathlib.Omega.{arith}
+use Rattle.std.proofs.Common.{◌≡◌, refl, true, List, ℕ, arith}
 use Rattle.laws.specs.Units.{Good, Level}
 use Rattle.laws.proofs.Sets.{row-test, level-test, level, good-level, good-far}
 use Rattle.tables.specs.Alphabet.{rows_of}

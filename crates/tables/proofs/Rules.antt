@@ -11,11 +11,7 @@
 --   distinct-parities    no parities stand twice, so searches undo lookups; distinct-patterns, nor do patterns, in one set or in two
 --
 -- Assumes nothing.
-use mathlib.Core.Path.{◌≡◌, refl}
-use mathlib.Core.List.{[], ◌++◌}
-use Prim.Native.Nat.{ℕ, zero, suc, ◌+◌, ◌*◌, ◌-◌, ◌^◌, ◌<◌}
-use lib.Dec.{ltb}
-use lib.ListN.{length, get_or}
+use Rattle.std.proofs.Common.{◌≡◌, refl, [], ◌++◌, ℕ, zero, suc, ◌+◌, ◌*◌, ◌-◌, ◌^◌, ◌<◌, ltb, length, get_or}
 use Rattle.laws.specs.Search.{pick, index_in, Distinct}
 use Rattle.laws.specs.Elements.{sum}
 use Rattle.laws.proofs.Finite.{line, grid}

@@ -4,13 +4,7 @@
 --   level-rows     where the code of each character has k ones, each of its rows has n + 2 k modules
 --
 -- Assumes nothing.
-use mathlib.Core.Path.{◌≡◌}
-use mathlib.Core.List.{List, [], ◌∷◌, map}
-use Prim.Native.Nat.{ℕ, zero, suc, ◌+◌, ◌*◌, ◌<◌}
-use native.Mathlib.Omega.{arith}
-use native.Mathlib.Nat.{le_of_suc-le-suc, not-suc-le-zero}
-use lib.ListN.{length, get_or, take, length-take}
-use lib.Seq.{get_or-take}
+use Rattle.std.proofs.Common.{◌≡◌, List, [], ◌∷◌, map, ℕ, zero, suc, ◌+◌, ◌*◌, ◌<◌, arith, le_of_suc-le-suc, not-suc-le-zero, length, get_or, take, length-take, get_or-take}
 use Rattle.laws.specs.Elements.{sum}
 use Rattle.laws.specs.Units.{Level}
 use Rattle.tables.specs.Bits.{ones, spread}

@@ -1,5 +1,6 @@
 // EAN-13: the parities of table 5.2.
-ghost use Rattle.std.specs.Prelude.{◌≡◌};
+ghost use Rattle.std.specs.Prelude.{◌≡◌, ltb};
+ghost use Rattle.laws.specs.Search.{some_if, below};
 ghost use Rattle.tables.specs.Ean.{parities_of, first_digit};
 
 // The parities of D2 to D7 by D1: the highest bit is D2's, and 1 is even.
@@ -8,21 +9,16 @@ const PARITIES: [u16; 10] = [
     0b011010,
 ];
 
-// The parities that carry a first digit, or 0.
-pub fn parities_of(first: u8) -> u16
-    ensures { result ≡ parities_of first }
+// The parities that carry a first digit, if it is a digit.
+pub fn parities_of(first: u8) -> Option<u16>
+    ensures { result ≡ some_if (ltb first 10) (parities_of first) }
 {
-    if first < 10 {
-        PARITIES[first as usize]
-    } else {
-        0
-    }
+    super::entry(&PARITIES, first)
 }
 
-// The first digit that parities carry, or 10.
-pub fn first_digit(parities: u16) -> u8
-    ensures { result ≡ first_digit parities }
+// The first digit that parities carry, if they carry one.
+pub fn first_digit(parities: u16) -> Option<u8>
+    ensures { result ≡ below 10 (first_digit parities) }
 {
-    let all = PARITIES;
-    laws::index_in(&all, parities) as u8
+    u8::try_from(laws::index_in(&PARITIES, parities)?).ok()
 }

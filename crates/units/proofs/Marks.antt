@@ -1,20 +1,11 @@
 -- What the code's descriptions draw (shapes, specs/Described.antt): a mark is a parting space and a row, and so is a unit.
 --
---   mark-none, mark-some    a mark of no elements draws nothing, another one the space and its row; mark-sized, of three to nine elements
---   unit-shows      a unit draws the space and the row of its choice; unit-sized, of three to ten elements
---   in-sets, in-set    its row is within the sets; of a pair both digits are in one
+--   mark-some     a mark that has elements draws the space and its row; mark-sized, of three to nine elements
+--   unit-shows      a unit draws the space and the row of its choice
 --   row-in, pair-in    that row, of up to nine elements and of ten; shown-length, its length
 --
 -- Assumes nothing.
-use mathlib.Core.Path.{◌≡◌, refl, ap, ◌∙◌}
-use mathlib.Core.Logic.{◌≢◌}
-use mathlib.Core.Bool.{Bool, true, false, ◌||◌}
-use mathlib.Core.List.{List, [], ◌∷◌, ◌++◌, map, append-nil}
-use Prim.Native.Nat.{ℕ, ◌+◌, ◌*◌, ◌/◌, ◌%◌, ◌<◌, ◌≤◌}
-use native.Mathlib.Omega.{arith}
-use lib.Dec.{eqb, ltb, leb}
-use lib.ListN.{length, get_or}
-use borrow.Author.Tests.{leb-true, ltb-true, ltb-false, lt-ltb, le-ltb, eq-eqb, ne_eqb}
+use Rattle.std.proofs.Common.{◌≡◌, refl, ap, ◌∙◌, ◌≢◌, Bool, true, false, ◌||◌, List, [], ◌∷◌, ◌++◌, map, append-nil, ℕ, ◌/◌, ◌%◌, ◌<◌, ◌≤◌, arith, eqb, ltb, leb, length, get_or, leb-true, ltb-true, ltb-false, lt-ltb, le-ltb, ne_eqb}
 use Rattle.laws.specs.Units.{strip, fixed, free}
 use Rattle.laws.specs.Spelling.{counted}
 use Rattle.laws.proofs.Finite.{both_left, both_right}
@@ -24,7 +15,7 @@ use Rattle.shapes.specs.declared.parts.Mark.{Mark}
 use Rattle.shapes.specs.declared.parts.Unit.{Unit}
 use Rattle.shapes.specs.Sets.{bytes, row_of, word_at}
 use Rattle.shapes.proofs.Words.{row-length}
-use Rattle.shapes.specs.Described.{gap_in, mark_in, row_in, unit_in, sizeable, within}
+use Rattle.shapes.specs.Described.{gap_in, mark_in, row_in, unit_in, sizeable}
 
 sized : (most k : ℕ) → sizeable most k ≡ true → (3 ≤ k) × (k ≤ most)
 sized most k e = (leb-true 3 k (both_left (leb 3 k) (leb k most) e), leb-true k most (both_right (leb 3 k) (leb k most) e))
@@ -32,9 +23,6 @@ sized most k e = (leb-true 3 k (both_left (leb 3 k) (leb k most) e), leb-true k 
 -- ---- marks
 
 module _ (m : Mark) where
-  pub mark-none : m.elements ≡ 0 → strip (mark_in m) [] ≡ []
-  mark-none e = rw (eq-eqb m.elements 0 e)
-
   pub mark-some : m.elements ≢ 0 → strip (mark_in m) [] ≡ strip (gap_in m.gap) [] ++ row_of m.elements m.word
   mark-some n = rw (ne_eqb m.elements 0 n) (go m.gap)
     where
@@ -72,16 +60,3 @@ module _ (sets : List (List ℕ)) (u : Unit) (c : ℕ) (h : c < u.size) where
       go false e =
           let n : 10 ≤ u.elements = ltb-false u.elements 10 e in
           rw (pair-in n) (omega (arith, (sized 10 u.elements z).1))
-
-  pub in-sets : within (length sets) u ≡ true → u.elements < 10 → 10 * u.set + u.size ≤ 10 * length sets
-  in-sets w n = leb-true (10 * u.set + u.size) (10 * length sets) (rw (lt-ltb u.elements 10 n) at w)
-
-  pub in-set : within (length sets) u ≡ true → 10 ≤ u.elements → (c < 100) × (u.set < length sets)
-  in-set w n =
-      let b = rw (le-ltb u.elements 10 n) at w in (
-        omega (arith, leb-true u.size 100 (both_left (leb u.size 100) (ltb u.set (length sets)) b)),
-        ltb-true u.set (length sets) (both_right (leb u.size 100) (ltb u.set (length sets)) b),
-      )
-
-pub unit-sized : (u : Unit) → sizeable 10 u.elements ≡ true → (3 ≤ u.elements) × (u.elements ≤ 10)
-unit-sized u = sized 10 u.elements

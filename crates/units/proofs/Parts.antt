@@ -1,25 +1,17 @@
 -- A strip's parts, one cut off after another: a mark draws no choice, and each unit of a part draws one.
 --
---   next-choice     the choices from an index on; inside, those of a part among all
+--   next-choice     the choices from an index on
 --   Cut, part_cut   the first part of a strip: how many choices it draws, each one of its rows, and what the others draw
---   Left, started, Turn, turn, ended    the loop over parts: what is left to draw, and a part of it
---   sound-mark, sound-unit    what is asked of a description
+--   Left, started, Turn, turn    the loop over parts: what is left to draw, and a part of it
+--   sound-unit    what is asked of a description's unit
 --
 -- Assumes nothing.
-use mathlib.Core.Path.{◌≡◌, refl, sym, ap, ◌∙◌}
-use mathlib.Core.Bool.{Bool, true, false, ◌&&◌, ◌||◌}
-use mathlib.Core.List.{List, [], ◌∷◌, ◌++◌, map, append-nil, append_assoc}
-use Prim.Native.Nat.{ℕ, zero, suc, ◌+◌, ◌-◌, ◌<◌, ◌≤◌}
-use native.Mathlib.Omega.{arith}
-use native.Mathlib.Numerals.{add-one}
-use Prim.Native.Nat.{zero-le, suc-le-suc}
-use lib.Dec.{eqb}
-use lib.ListN.{length, get_or, take, drop, length-map, length-append, length-drop, drop_of_length-le}
-use lib.Seq.{drop-cons, drop-drop, take-take, length-take-le}
+use Rattle.std.proofs.Common.{◌≡◌, refl, sym, ap, ◌∙◌, Bool, true, false, ◌&&◌, ◌||◌, List, [], ◌∷◌, ◌++◌, map, append-nil, append_assoc, ℕ, zero, suc, ◌+◌, ◌<◌, ◌≤◌, arith, add-one, zero-le, suc-le-suc, eqb, length, get_or, take, drop, length-append, drop-cons}
+use lib.ListN.{length-map}
 use Rattle.laws.specs.Search.{pick}
-use Rattle.laws.specs.Units.{Kind, fixed, free, strip, frees, Fits}
+use Rattle.laws.specs.Units.{Kind, fixed, free, strip, Fits}
 use Rattle.laws.specs.Writing.{put_in, Put}
-use Rattle.laws.proofs.Writing.{Rest, rest-start, rest_put, rest_end}
+use Rattle.laws.proofs.Writing.{Rest, rest-start, rest_put}
 use Rattle.laws.specs.Shapes.{many}
 use Rattle.laws.specs.Spelling.{counted}
 use Rattle.laws.proofs.Finite.{both_left, both_right}
@@ -29,7 +21,6 @@ use Rattle.shapes.specs.declared.parts.Part.{Part as Line}
 use Rattle.shapes.proofs.Lines.{none-count}
 use Rattle.shapes.specs.Sets.{row_of, sets_of}
 use Rattle.shapes.specs.Described.{gap_in, mark_in, row_in, unit_in, count_in, is_none, part_in, sizeable, within, sound, Describes}
-use Rattle.symbologies.specs.Sizes.{places}
 use Rattle.symbologies.specs.Parts.{Part, close, part_units}
 use Rattle.symbologies.specs.Symbologies.{symbology_of}
 use Rattle.symbologies.specs.Strips.{units_of}
@@ -37,17 +28,8 @@ use Rattle.units.specs.Units.{laid}
 
 -- ---- choices
 
-pub next-choice : (ch : List ℕ) (i past : ℕ) → i < past → past ≤ length ch
-    → take (past - i) (drop i ch) ≡ get_or ch i 0 ∷ take (past - (i + 1)) (drop (i + 1) ch)
-next-choice ch i past h l =
-    let e : past - i ≡ suc (past - (i + 1)) = omega arith in
-    rw (e, drop-cons ch i 0 (omega arith), add-one i) refl
-
-pub inside : (ch : List ℕ) (all first k : ℕ) → first + k ≤ all → take k (drop first (take all ch)) ≡ take k (drop first ch)
-inside ch all zero k h = take-take k all ch (omega arith)
-inside ch zero (suc f) k h = absurd (omega arith)
-inside [] (suc a) (suc f) k h = refl
-inside (c ∷ ch) (suc a) (suc f) k h = inside ch a f k (omega arith)
+pub next-choice : (cs : List ℕ) (i : ℕ) → i < length cs → drop i cs ≡ get_or cs i 0 ∷ drop (i + 1) cs
+next-choice cs i h = rw add-one (drop-cons cs i 0 h)
 
 -- ---- what is asked of a description
 
@@ -57,9 +39,6 @@ module _ (n : ℕ) (p : Line) (s : sound n p ≡ true) where
 
   abbrev unit-good : Bool
   unit-good = sizeable 10 p.unit.elements && within n p.unit
-
-  pub sound-mark : (eqb p.mark.elements 0 || sizeable 9 p.mark.elements) ≡ true
-  sound-mark = both_left mark-good (is_none p.count || unit-good) s
 
   pub sound-unit : is_none p.count ≡ false → (sizeable 10 p.unit.elements ≡ true) × (within n p.unit ≡ true)
   sound-unit e =
@@ -156,74 +135,52 @@ part_cut sets p n rest cs f =
 
 -- ---- a strip, part by part
 
-module _ (s n : ℕ) (ch : List ℕ) where
+module _ (s n : ℕ) where
   abbrev ps : List Part
   ps = (symbology_of s).parts
 
-  abbrev pub chosen : List ℕ
-  chosen = take (frees (units_of s n)) ch
-
   -- the parts and choices that are left, what they draw, and where
-  pub record Left (goal : List ℕ) (end i first : ℕ) (out : List ℕ) (at : ℕ) : Type 0 where
-    pub few : first ≤ length chosen
-    pub fits : Fits (part_units n (drop i ps)) (drop first chosen)
-    pub rest : Rest goal end out at (strip (part_units n (drop i ps)) (drop first chosen))
+  pub record Left (goal : List ℕ) (end i : ℕ) (cs out : List ℕ) (at : ℕ) : Type 0 where
+    pub fits : Fits (part_units n (drop i ps)) cs
+    pub rest : Rest goal end out at (strip (part_units n (drop i ps)) cs)
 
-  abbrev text : List (List ℕ) → Line → ℕ → ℕ → List ℕ
-  text sets p first past = strip (mark_in p.mark) [] ++ laid (unit_in sets p.unit) (take (past - first) (drop first ch))
+  abbrev text : List (List ℕ) → Line → List ℕ → List ℕ
+  text sets p cs = strip (mark_in p.mark) [] ++ laid (unit_in sets p.unit) cs
 
   -- what a turn asks of the next part, and what it leaves
-  pub record Turn (goal : List ℕ) (end : ℕ) (sets : List (List ℕ)) (p : Line) (i first past : ℕ) (out : List ℕ) (at : ℕ) : Type 0 where
+  pub record Turn (goal : List ℕ) (end : ℕ) (sets : List (List ℕ)) (p : Line) (i k : ℕ) (cs out : List ℕ) (at : ℕ) : Type 0 where
+    pub few : k ≤ length cs
     pub good : sound (length sets) p ≡ true
-    pub some : first < past → is_none p.count ≡ false
-    pub order : first ≤ past
-    pub room : past ≤ places
-    pub below : Below p.unit.size (take (past - first) (drop first ch))
-    pub reach : at + length (text sets p first past) ≤ length out
-    pub next : {q : List ℕ} {m : ℕ} → Put out at (text sets p first past) q m → Left goal end (i + 1) past q m
+    pub some : 0 < k → is_none p.count ≡ false
+    pub below : Below p.unit.size (take k cs)
+    pub reach : at + length (text sets p (take k cs)) ≤ length out
+    pub next : {q : List ℕ} {m : ℕ} → Put out at (text sets p (take k cs)) q m → Left goal end (i + 1) (drop k cs) q m
 
-  pub started : (out : List ℕ) → Fits (units_of s n) chosen → length (strip (units_of s n) chosen) ≤ length out
-      → Left (put_in 0 (strip (units_of s n) chosen) out) (0 + length (strip (units_of s n) chosen)) 0 0 out 0
+  pub started : (cs out : List ℕ) → Fits (units_of s n) cs → length (strip (units_of s n) cs) ≤ length out
+      → Left (put_in 0 (strip (units_of s n) cs) out) (0 + length (strip (units_of s n) cs)) 0 cs out 0
   unfolding units_of
-  started out f l = record { few = zero-le; fits = f; rest = rest-start out (strip (units_of s n) chosen) 0 (omega arith) }
+  started cs out f l = record { fits = f; rest = rest-start out (strip (units_of s n) cs) 0 (omega arith) }
 
-  pub turn : {goal out : List ℕ} {end i first at : ℕ} (sets : List (List ℕ)) (p : Line) (past : ℕ) → length ch ≡ places → frees (units_of s n) ≤ places → Left goal end i first out at → i < length ps
-      → Describes (sets_of s) ps i p → sets ≡ sets_of s → past ≡ first + count_in p.count n → Turn goal end sets p i first past out at
-  turn {goal} {out} {end} {i} {first} {at} sets p past long enough l h d e q =
-      let o : length chosen ≡ frees (units_of s n) = length-take-le (frees (units_of s n)) ch (omega (arith, long)) in
+  pub turn : {goal cs out : List ℕ} {end i at : ℕ} (sets : List (List ℕ)) (p : Line) → Left goal end i cs out at → i < length ps
+      → Describes (sets_of s) ps i p → sets ≡ sets_of s → Turn goal end sets p i (count_in p.count n) cs out at
+  turn {goal} {cs} {out} {end} {i} {at} sets p l h d e =
       let k : ℕ = count_in p.count n in
       let c : drop i ps ≡ part_in sets p ∷ drop (i + 1) ps
       = drop-cons ps i (close []) h ∙ rw (e, d.is, add-one i) in
-      let t = part_cut sets p n (drop (i + 1) ps) (drop first chosen) (rw c at l.fits) in
-      let g : length (drop first chosen) ≡ length chosen - first = length-drop first chosen in
-      let w : past - first ≡ k = omega arith in
-      let v : first + k ≤ frees (units_of s n) = omega (arith, t.0.few, l.few) in
-      let y : take (past - first) (drop first ch) ≡ take k (drop first chosen) = rw w (sym (inside ch (frees (units_of s n)) first k v)) in
-      let z : drop k (drop first chosen) ≡ drop past chosen = drop-drop k first chosen ∙ rw q in
-      let f : strip (part_units n (drop i ps)) (drop first chosen)
-      ≡ (strip (mark_in p.mark) [] ++ laid (unit_in sets p.unit) (take k (drop first chosen))) ++ strip (part_units n (drop (i + 1) ps)) (drop k (drop first chosen))
-      = rw c t.1 in
-      let x : strip (part_units n (drop i ps)) (drop first chosen) ≡ text sets p first past ++ strip (part_units n (drop (i + 1) ps)) (drop past chosen)
-      = rw (y, ← z) f in
-      let r : Rest goal end out at (text sets p first past ++ strip (part_units n (drop (i + 1) ps)) (drop past chosen)) = rw x at l.rest in
-      let a : length (text sets p first past ++ strip (part_units n (drop (i + 1) ps)) (drop past chosen))
-      ≡ length (text sets p first past) + length (strip (part_units n (drop (i + 1) ps)) (drop past chosen)) = length-append (text sets p first past) _ in
+      let t = part_cut sets p n (drop (i + 1) ps) cs (rw c at l.fits) in
+      let f : strip (part_units n (drop i ps)) cs ≡ text sets p (take k cs) ++ strip (part_units n (drop (i + 1) ps)) (drop k cs) = rw c t.1 in
+      let r : Rest goal end out at (text sets p (take k cs) ++ strip (part_units n (drop (i + 1) ps)) (drop k cs)) = rw f at l.rest in
+      let a : length (text sets p (take k cs) ++ strip (part_units n (drop (i + 1) ps)) (drop k cs))
+      ≡ length (text sets p (take k cs)) + length (strip (part_units n (drop (i + 1) ps)) (drop k cs)) = length-append (text sets p (take k cs)) _ in
       record {
+        few = t.0.few;
         good = rw e d.good;
-        some = λ f. some-units (is_none p.count) refl f;
-        order = omega arith;
-        room = omega arith;
-        below = rw y t.0.below;
+        some = some-units (is_none p.count) refl;
+        below = t.0.below;
         reach = omega (arith, r.ends, r.fits, r.long);
-        next = λ u. record { few = omega arith; fits = rw z at t.0.fits; rest = rest_put _ r u };
+        next = λ u. record { fits = t.0.fits; rest = rest_put _ r u };
       }
     where
-      some-units : (b : Bool) → is_none p.count ≡ b → first < past → b ≡ false
+      some-units : (b : Bool) → is_none p.count ≡ b → 0 < count_in p.count n → b ≡ false
       some-units false f g = refl
       some-units true f g = absurd (omega (arith, none-count p.count n f))
-
-  pub ended : (out : List ℕ) {q : List ℕ} {i first at : ℕ} → Left (put_in 0 (strip (units_of s n) chosen) out) (0 + length (strip (units_of s n) chosen)) i first q at
-      → length ps ≤ i → length (strip (units_of s n) chosen) ≤ length out → Put out 0 (strip (units_of s n) chosen) q at
-  ended out {q} {i} {first} {at} l h f =
-      let e : drop i ps ≡ [] = drop_of_length-le ps {i = i} h in
-      rest_end out (strip (units_of s n) chosen) 0 (rw e at l.rest) (omega arith)

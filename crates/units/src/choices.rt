@@ -10,26 +10,26 @@ ghost use Rattle.units.specs.Units.{side_of};
 use symbologies::sizes::PLACES;
 
 // Codabar: the letters at both ends, 16 to 19, from 0 on.
-pub fn lettered(codes: &[u8; PLACES], n: usize) -> [u8; PLACES]
-    requires { (length codes.now ≡ places) × ((2 ≤ n) × ((n ≤ places) × (all_allowed 3 true (take n codes.now) ≡ true))) }
-    ensures { take n result ≡ lowered true (take n codes.now) }
+pub fn lettered(chars: &[u8]) -> [u8; PLACES]
+    requires { (2 ≤ length chars.now) × ((length chars.now ≤ places) × (all_allowed 3 true chars.now ≡ true)) }
+    ensures { take (length chars.now) result ≡ lowered true chars.now }
 {
-    let mut rows = *codes;
+    let n = chars.len();
+    let mut rows = [0; PLACES];
+    rows[..n].copy_from_slice(chars);
     rows[0] -= 16;
     rows[n - 1] -= 16;
     rows
 }
 
 // Interleaved: two digits a unit.
-pub fn paired(codes: &[u8; PLACES], n: usize) -> [u8; PLACES]
-    requires { (length codes.now ≡ places) × ((n ≤ places) × Below 10 (take n codes.now)) }
-    ensures { take (n / 2) result ≡ paired (take n codes.now) }
+pub fn paired(chars: &[u8]) -> [u8; PLACES]
+    requires { (length chars.now ≤ places) × Below 10 chars.now }
+    ensures { take (length chars.now / 2) result ≡ paired chars.now }
 {
     let mut rows = [0; PLACES];
-    let mut i = 0;
-    while i < n / 2 {
-        rows[i] = 10 * codes[2 * i] + codes[2 * i + 1];
-        i += 1;
+    for (i, pair) in chars.chunks_exact(2).enumerate() {
+        rows[i] = 10 * pair[0] + pair[1];
     }
     rows
 }
@@ -46,16 +46,14 @@ fn side(parities: u16, i: usize) -> u8
 }
 
 // EAN-13: twelve units, the six left ones in the odd or the even set.
-pub fn sided(codes: &[u8; PLACES]) -> [u8; PLACES]
-    requires { (length codes.now ≡ places) × Below 10 (take 13 codes.now) }
-    ensures { take 12 result ≡ sided (take 13 codes.now) }
+pub fn sided(chars: &[u8]) -> [u8; 12]
+    requires { (length chars.now ≡ 13) × Below 10 chars.now }
+    ensures { result ≡ sided chars.now }
 {
-    let parities = tables::ean::parities_of(codes[0]);
-    let mut rows = [0; PLACES];
-    let mut i = 0;
-    while i < 12 {
-        rows[i] = 10 * side(parities, i) + codes[i + 1];
-        i += 1;
+    let parities = tables::ean::parities_of(chars[0]).unwrap();
+    let mut rows = [0; 12];
+    for (i, digit) in chars[1..].iter().enumerate() {
+        rows[i] = 10 * side(parities, i) + digit;
     }
     rows
 }

@@ -1,9 +1,8 @@
 // The strip, put part by part and unit by unit in lent room (document 01, "Two-width strips", "EAN and UPC strips").
-ghost use Rattle.std.specs.Prelude.{◌≡◌, true, false, ◌||◌, [], ◌∷◌, ◌++◌, ◌+◌, ◌*◌, ◌-◌, ◌<◌, ◌≤◌, eqb, length, take, drop};
-ghost use Rattle.laws.specs.Units.{strip, frees, Fits};
+ghost use Rattle.std.specs.Prelude.{◌≡◌, true, false, ◌||◌, [], ◌∷◌, ◌++◌, ◌+◌, ◌*◌, ◌<◌, ◌≤◌, eqb, length};
+ghost use Rattle.laws.specs.Units.{strip, Fits};
 ghost use Rattle.laws.specs.Writing.{Put, front};
 ghost use Rattle.laws.proofs.Spelling.{Below};
-ghost use Rattle.symbologies.specs.Sizes.{places};
 ghost use Rattle.symbologies.specs.Strips.{units_of, strip_of, ready};
 ghost use Rattle.shapes.specs.Sets.{word_at, sets_of};
 ghost use Rattle.shapes.specs.Described.{gap_in, mark_in, row_in, unit_in, is_none, sizeable, within, sound};
@@ -12,10 +11,10 @@ ghost use Rattle.units.specs.Units.{laid};
 use super::choices;
 use shapes::parts::{Mark, Part, Unit};
 use shapes::{parts, sets};
-use symbologies::sizes::PLACES;
 use words::ElementPlace;
 
 // The parting space, if there is one, and the place behind it.
+// Stays a buffer and a place, here and below: `Put` speaks of both, and a struct around a `&mut` would only stand before them in each clause.
 fn put_gap(out: &mut [u8], place: ElementPlace, gap: bool) -> usize
     requires { place.0 + length (strip (gap_in gap) []) ≤ length out.old }
     ensures { Put out.old place.0 (strip (gap_in gap) []) out.new result }
@@ -100,78 +99,64 @@ fn put_unit(
     ElementPlace(at + unit.elements)
 }
 
-// A part: its mark, then a unit for each choice from one index to before another.
+// A part: its mark, then a unit for each choice.
 fn put_part(
     out: &mut [u8],
     from: ElementPlace,
     sets: &[[u64; 10]],
     part: Part,
-    choices: &[u8; PLACES],
-    first: usize,
-    past: usize,
+    choices: &[u8],
 ) -> ElementPlace
-    requires part_value { (sound (length sets.now) part ≡ true) × (first < past → is_none part.count ≡ false) }
-    requires choices_len { (length choices.now ≡ places) × ((first ≤ past) × ((past ≤ places) × Below part.unit.size (take (past - first) (drop first choices.now)))) }
-    requires choices_in_bounds { from.0 + length (strip (mark_in part.mark) [] ++ laid (unit_in sets.now part.unit) (take (past - first) (drop first choices.now))) ≤ length out.old }
-    ensures { Put out.old from.0 (strip (mark_in part.mark) [] ++ laid (unit_in sets.now part.unit) (take (past - first) (drop first choices.now))) out.new result.0 }
+    requires part_value { (sound (length sets.now) part ≡ true) × (0 < length choices.now → is_none part.count ≡ false) }
+    requires choices_value { Below part.unit.size choices.now }
+    requires choices_in_bounds { from.0 + length (strip (mark_in part.mark) [] ++ laid (unit_in sets.now part.unit) choices.now) ≤ length out.old }
+    ensures { Put out.old from.0 (strip (mark_in part.mark) [] ++ laid (unit_in sets.now part.unit) choices.now) out.new result.0 }
 {
-    let unit = part.unit;
     let mut at = put_mark(out, from, part.mark);
-    let mut i = first;
-    while i < past {
-        at = put_unit(out, at, sets, unit, choices[i]);
-        i += 1;
+    for &choice in choices {
+        at = put_unit(out, at, sets, part.unit, choice);
     }
     at
 }
 
-// The parts of a strip of n characters, one behind the other.
-fn put_parts(out: &mut [u8], sets: &[[u64; 10]], symbology: u8, choices: &[u8; PLACES], n: usize)
-    requires sets_value { (sets.now ≡ sets_of symbology) × ((length choices.now ≡ places) × (frees (units_of symbology n) ≤ places)) }
-    requires fits { Fits (units_of symbology n) (take (frees (units_of symbology n)) choices.now) }
-    requires choices_in_bounds { length (strip (units_of symbology n) (take (frees (units_of symbology n)) choices.now)) ≤ length out.old }
-    ensures { out.new ≡ front (strip (units_of symbology n) (take (frees (units_of symbology n)) choices.now)) out.old }
+// The parts of a strip of n characters, one behind the other, with a choice for each unit.
+fn put_parts(out: &mut [u8], sets: &[[u64; 10]], symbology: u8, choices: &[u8], n: usize)
+    requires sets_value { sets.now ≡ sets_of symbology }
+    requires fits { Fits (units_of symbology n) choices.now }
+    requires choices_in_bounds { length (strip (units_of symbology n) choices.now) ≤ length out.old }
+    ensures { out.new ≡ front (strip (units_of symbology n) choices.now) out.old }
 {
-    let all = parts::part_count(symbology);
     let mut at = ElementPlace(0);
-    let mut first = 0;
-    let mut i = 0;
-    while i < all {
+    let mut rest = choices;
+    for i in 0..parts::part_count(symbology) {
         let part = parts::part_of(symbology, i);
-        let count = part.count;
-        let past = first + parts::count_in(count, n);
-        at = put_part(out, at, sets, part, choices, first, past);
-        first = past;
-        i += 1;
+        let (own, others) = rest.split_at(parts::count_in(part.count, n));
+        at = put_part(out, at, sets, part, own);
+        rest = others;
     }
 }
 
-// The strip of n characters, by the sets of its symbology and the row that each unit shows.
-pub fn build(out: &mut [u8], symbology: u8, codes: &[u8; PLACES], n: usize)
-    requires codes_len { (length codes.now ≡ places) × ((n ≤ places) × (ready symbology (take n codes.now) ≡ true)) }
-    requires codes_in_bounds { length (strip_of symbology (take n codes.now)) ≤ length out.old }
-    ensures { out.new ≡ front (strip_of symbology (take n codes.now)) out.old }
+// The strip of drawn characters, by the sets of their symbology and the row that each unit shows.
+// Stays a `match` on the number, with a call an arm: the sets are arrays of different sizes, and three symbologies have choices of their own.
+pub fn build(out: &mut [u8], symbology: u8, chars: &[u8])
+    requires chars_value { ready symbology chars.now ≡ true }
+    requires chars_in_bounds { length (strip_of symbology chars.now) ≤ length out.old }
+    ensures { out.new ≡ front (strip_of symbology chars.now) out.old }
 {
+    let n = chars.len();
     match symbology {
-        1 => put_parts(out, &sets::code39(), symbology, codes, n),
-        2 => put_parts(out, &sets::code39(), symbology, codes, n),
-        3 => put_parts(
-            out,
-            &sets::codabar(),
-            symbology,
-            &choices::lettered(codes, n),
-            n,
-        ),
-        4 => put_parts(out, &sets::industrial(), symbology, codes, n),
-        5 => put_parts(
-            out,
-            &sets::digits(),
-            symbology,
-            &choices::paired(codes, n),
-            n,
-        ),
-        6 => put_parts(out, &sets::digits(), symbology, codes, n),
-        7 => put_parts(out, &sets::ean(), symbology, &choices::sided(codes), n),
-        _ => put_parts(out, &sets::ean(), symbology, codes, n),
+        1 | 2 => put_parts(out, &sets::code39(), symbology, chars, n),
+        3 => {
+            let letters = choices::lettered(chars);
+            put_parts(out, &sets::codabar(), symbology, &letters[..n], n);
+        }
+        4 => put_parts(out, &sets::industrial(), symbology, chars, n),
+        5 => {
+            let pairs = choices::paired(chars);
+            put_parts(out, &sets::digits(), symbology, &pairs[..n / 2], n);
+        }
+        6 => put_parts(out, &sets::digits(), symbology, chars, n),
+        7 => put_parts(out, &sets::ean(), symbology, &choices::sided(chars), n),
+        _ => put_parts(out, &sets::ean(), symbology, chars, n),
     }
 }

@@ -19,34 +19,22 @@ ghost use Rattle.units.specs.Laid.{chars_of, laid_of, laid_in};
 use symbologies::lengths;
 use symbologies::row::Row;
 use symbologies::sizes::LONGEST;
-use words::{Elements, Modules};
+use words::{Answer, Elements, Modules};
 
-// What became of a row.
-#[derive(Clone, Copy)]
-pub enum Laid {
-    // Its strip is written: so many elements and modules.
-    Strip(Elements, Modules),
-    // The lent buffer is too short: so many elements are needed.
-    Short(Elements),
-}
-
-// The strip of a row of its symbology, in the lent buffer.
-pub fn draw_row(symbology: u8, row: Row, out: &mut [u8]) -> Laid
+// The strip of a row of its symbology, in the lent buffer: so many elements and modules; where it is too short, so many elements are needed.
+// Stays a row by value and a room whose first elements are copied: document 01's forms.
+pub fn draw_row(symbology: u8, row: Row, out: &mut [u8]) -> Result<(Elements, Modules), Answer>
     requires { ready symbology (chars_of row) ≡ true }
     ensures value { result ≡ laid_of symbology (chars_of row) (length out.old) }
     ensures out_after { out.new ≡ laid_in symbology (chars_of row) out.old }
 {
-    let n = row.len;
-    let codes = row.codes;
-    let count = lengths::elements_of(symbology, n);
+    let count = lengths::elements_of(symbology, row.len);
     if out.len() < count {
-        return Laid::Short(Elements(count));
+        return Err(Answer::ShortForStrip(Elements(count)));
     }
     let mut room = [0; LONGEST];
-    layout::build(&mut room, symbology, &codes, n);
+    layout::build(&mut room, symbology, &row.codes[..row.len]);
     out[..count].copy_from_slice(&room[..count]);
-    Laid::Strip(
-        Elements(count),
-        Modules(lengths::modules_of(symbology, &codes, n)),
-    )
+    let modules = lengths::modules_of(symbology, &row);
+    Ok((Elements(count), Modules(modules)))
 }

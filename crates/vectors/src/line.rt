@@ -1,5 +1,4 @@
 // A line of the output: a label, what a call answered, and what it left in the room, which was filled with FILL.
-use crate::part;
 use crate::part::Form;
 use std::io;
 use std::io::Write;
@@ -9,106 +8,76 @@ use words::Said;
 // No element is so wide, and no byte of data so high.
 pub const FILL: u8 = 255;
 
-// name/symbology/mode/count
-pub fn label(
-    rt: &HostRuntime,
-    vector: &[u8],
-    symbology: u8,
-    mode: u8,
-    count: usize,
-) -> io::Result<()> {
-    write_name(rt, vector)?;
-    write_number(rt, "/", symbology as u64)?;
-    write_number(rt, "/", mode as u64)?;
-    write_number(rt, "/", count as u64)
+// What a line is made of, but for the room.
+#[derive(Clone, Copy)]
+pub struct Line<'a> {
+    pub name: &'a [u8],
+    pub symbology: u8,
+    pub mode: u8,
+    // Of the data bytes or of the strip's elements.
+    pub count: usize,
+    pub said: Said,
+    // What was written, in this form.
+    pub form: Form,
 }
 
-fn write_name(rt: &HostRuntime, vector: &[u8]) -> io::Result<()> {
-    let from = part::start(vector, 1);
-    let behind = part::start(vector, 2);
-    if from < behind {
-        if behind <= vector.len() {
-            return write(rt, &vector[from..behind - 1]);
+impl Line<'_> {
+    pub fn show(self, rt: &HostRuntime, room: &[u8; LONGEST]) -> io::Result<()> {
+        self.label(rt)?;
+        self.answer(rt)?;
+        self.written(rt, room)?;
+        if is_kept(room, self.said.count) {
+            write(rt, b" kept\n")
+        } else {
+            write(rt, b" changed\n")
         }
     }
-    Ok(())
-}
 
-fn write(rt: &HostRuntime, bytes: &[u8]) -> io::Result<()> {
-    rt.stdout().write_all(bytes)
-}
-
-fn write_number(rt: &HostRuntime, before: &str, n: u64) -> io::Result<()> {
-    print!(rt; "{before}{n}")
-}
-
-// The rest of the line, of a call that draws.
-pub fn show_strip(rt: &HostRuntime, said: Said, room: &[u8; LONGEST]) -> io::Result<()> {
-    show(rt, said, Form::Widths, room)
-}
-
-// The rest of the line, of a call that reads.
-pub fn show_data(rt: &HostRuntime, said: Said, room: &[u8; 40]) -> io::Result<()> {
-    show(rt, said, Form::Text, room)
-}
-
-fn show(rt: &HostRuntime, said: Said, form: Form, room: &[u8]) -> io::Result<()> {
-    let count = said.count;
-    write_number(rt, " ", said.number as u64)?;
-    write_number(rt, " ", said.place as u64)?;
-    write_number(rt, " ", count as u64)?;
-    write_number(rt, " ", said.total as u64)?;
-    write_first(rt, room, count, form)?;
-    if is_kept(room, count) {
-        write(rt, b" kept\n")
-    } else {
-        write(rt, b" changed\n")
+    // name/symbology/mode/count
+    fn label(self, rt: &HostRuntime) -> io::Result<()> {
+        let (symbology, mode, count) = (self.symbology, self.mode, self.count);
+        write(rt, self.name)?;
+        print!(rt; "/{symbology}/{mode}/{count}")
     }
-}
 
-// The first `count` bytes of the room, or - if there are none.
-fn write_first(rt: &HostRuntime, room: &[u8], count: usize, form: Form) -> io::Result<()> {
-    write(rt, b" ")?;
-    if count == 0 {
-        write(rt, b"-")
-    } else if count <= room.len() {
-        write_bytes(rt, &room[0..count], form)
-    } else {
+    fn answer(self, rt: &HostRuntime) -> io::Result<()> {
+        let Said {
+            number,
+            place,
+            count,
+            total,
+        } = self.said;
+        print!(rt; " {number} {place} {count} {total} ")
+    }
+
+    // The first bytes of the room, or - if there are none.
+    fn written(self, rt: &HostRuntime, room: &[u8; LONGEST]) -> io::Result<()> {
+        if self.said.count == 0 {
+            return write(rt, b"-");
+        }
+        for &byte in room.iter().take(self.said.count) {
+            write_byte(rt, byte, self.form)?;
+        }
         Ok(())
     }
 }
 
-fn write_bytes(rt: &HostRuntime, bytes: &[u8], form: Form) -> io::Result<()> {
-    let mut i = 0;
-    while i < bytes.len() {
-        write_byte(rt, bytes[i], form)?;
-        i += 1;
-    }
-    Ok(())
-}
-
-// A backslash is never alone: two digits follow.
 fn write_byte(rt: &HostRuntime, byte: u8, form: Form) -> io::Result<()> {
-    let plain = [part::plain(byte, form)];
-    write(rt, &plain)?;
-    if plain[0] == b'\\' {
-        print!(rt; "{byte:02x}")?;
+    match form.character(byte) {
+        Some(character) => write(rt, &[character]),
+        None => print!(rt; "\\{byte:02x}"),
     }
-    Ok(())
 }
 
 // Whether every byte of the room from an index on is what the room was filled with.
 fn is_kept(room: &[u8], from: usize) -> bool {
-    let mut i = from;
-    while i < room.len() {
-        if room[i] != FILL {
-            return false;
-        }
-        i += 1;
-    }
-    true
+    room.iter().skip(from).all(|&byte| byte == FILL)
 }
 
 pub fn bad(rt: &HostRuntime) -> io::Result<()> {
     write(rt, b"bad line\n")
+}
+
+fn write(rt: &HostRuntime, bytes: &[u8]) -> io::Result<()> {
+    rt.stdout().write_all(bytes)
 }

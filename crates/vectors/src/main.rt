@@ -25,10 +25,8 @@
 // in the same order.
 #![tactic(auto)]
 
-mod drawing;
 mod line;
 mod part;
-mod reading;
 mod vector;
 
 ghost use Rattle.std.specs.Prelude.{◌≤◌, length, IfOk};
@@ -40,14 +38,15 @@ use std::io::Read;
 fn main(rt: HostRuntime) -> io::Result<()> {
     let mut space = [0; 65536];
     let count = read_full(&rt, &mut space)?;
-    if count < 65536 {
-        run_lines(&rt, &space[0..count])
+    if count < space.len() {
+        run_lines(&rt, &space[..count])
     } else {
         line::bad(&rt)
     }
 }
 
 // Reads until the input ends or the buffer is full: how many bytes.
+// Stays by hand: std's `read_exact` takes an input that is shorter than the buffer for an error.
 fn read_full(rt: &HostRuntime, buffer: &mut [u8]) -> io::Result<usize>
     ensures { IfOk result (λ n. n ≤ length buffer.new) }
 {
@@ -64,25 +63,10 @@ fn read_full(rt: &HostRuntime, buffer: &mut [u8]) -> io::Result<usize>
 
 // Bytes behind the last line end are a bad line.
 fn run_lines(rt: &HostRuntime, input: &[u8]) -> io::Result<()> {
-    let mut from = 0;
-    let mut at = 0;
-    while at < input.len() {
-        if input[at] == b'\n' {
-            run_line(rt, input, from, at)?;
-            from = at + 1;
-        }
-        at += 1;
-    }
-    if from < at {
-        line::bad(rt)?;
-    }
-    Ok(())
-}
-
-fn run_line(rt: &HostRuntime, input: &[u8], from: usize, end: usize) -> io::Result<()> {
-    if from <= end {
-        if end <= input.len() {
-            return vector::run(rt, &input[from..end]);
+    for line in input.split_inclusive(|&byte| byte == b'\n') {
+        match line {
+            [vector @ .., b'\n'] => vector::run(rt, vector)?,
+            _ => line::bad(rt)?,
         }
     }
     Ok(())

@@ -4,9 +4,7 @@
 --   refusal       of a number that is not 0: count and total are 0 (for the reader: it holds of every answer, so no call needs it)
 --
 -- Assumes nothing.
-use mathlib.Core.Path.{◌≡◌, refl, ap}
-use mathlib.Core.Logic.{◌≢◌}
-use Prim.Native.Nat.{ℕ, suc}
+use Rattle.std.proofs.Common.{◌≡◌, refl, ap, ◌≢◌, ℕ, suc}
 use Rattle.words.specs.declared.Answer.{Answer}
 use Rattle.words.specs.declared.Answer.TheVariants.{Drawn, HandedBack, NoSymbology, NoMode, BadCount, BadByte, OddCount, TooManyDrawn, BadCheck, ShortForStrip, ShortForData, BadLength, NoSuchUnit, NoSuchParities, NoExpansion, FieldNotZero}
 use Rattle.words.specs.declared.Said.{Said}

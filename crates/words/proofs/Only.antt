@@ -2,8 +2,8 @@
 -- Assumes nothing.
 use Rattle.laws.specs.One.{One}
 use Rattle.laws.proofs.Only.{only}
-use Rattle.words.proofs.say.Reads as Say
-use Rattle.words.proofs.say.Kinds as SayKinds
+use Rattle.words.proofs.SaidFromAnswer.from.Reads as Say
+use Rattle.words.proofs.SaidFromAnswer.from.Kinds as SayKinds
 
 pub say : One 0 SayKinds.ps SayKinds.r Say.Learnt
 say κs a p q x y = only

@@ -1,6 +1,6 @@
 -- One content of the lent buffer for each input of this crate's public functions.
 -- Assumes nothing.
-use mathlib.Core.Path.{sym, ◌∙◌}
+use Rattle.std.proofs.Common.{sym, ◌∙◌}
 use Rattle.laws.specs.One.{OneBuffer}
 use Rattle.writers.proofs.put_row.Reads as PutRow
 use Rattle.writers.proofs.put_row.Kinds as PutRowKinds

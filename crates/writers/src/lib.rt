@@ -10,46 +10,31 @@ ghost use Rattle.laws.specs.Writing.{Put};
 ghost use Rattle.tables.specs.Bits.{weave};
 ghost use Rattle.shapes.specs.Sets.{bytes, row_of};
 
+// Stays a buffer and a place in every function: `Put`, the promise, is of the whole buffer.
+
 // What the ninth element of a row counts in its word.
 const TOP: u64 = 0x1000000000000000;
 
-fn two(out: &mut [u8], at: usize, word: u64)
-    requires { at + 2 ≤ length out.old }
-    ensures { Put out.old at (bytes 2 word) out.new (at + 2) }
+// The first N elements of a word.
+fn put_first<const N: usize>(out: &mut [u8], at: usize, word: u64)
+    requires { (N ≤ 8) × (at + N ≤ length out.old) }
+    ensures { Put out.old at (bytes N word) out.new (at + N) }
 {
-    out[at] = (word % 256) as u8;
-    out[at + 1] = ((word >> 8) % 256) as u8;
-}
-
-fn four(out: &mut [u8], at: usize, word: u64)
-    requires { at + 4 ≤ length out.old }
-    ensures { Put out.old at (bytes 4 word) out.new (at + 4) }
-{
-    out[at] = (word % 256) as u8;
-    out[at + 1] = ((word >> 8) % 256) as u8;
-    out[at + 2] = ((word >> 16) % 256) as u8;
-    out[at + 3] = ((word >> 24) % 256) as u8;
-}
-
-fn eight(out: &mut [u8], at: usize, word: u64)
-    requires { at + 8 ≤ length out.old }
-    ensures { Put out.old at (bytes 8 word) out.new (at + 8) }
-{
-    four(out, at, word);
-    four(out, at + 4, word >> 32);
+    out[at..at + N].copy_from_slice(&word.to_le_bytes()[..N]);
 }
 
 // k elements, three to eight: the first and the last of them, which lap over.
+// Stays two copies of a fixed size and no copy of k bytes: that was tried, and short labels are drawn 17 in a hundred slower, long ones 5.
 fn put(out: &mut [u8], at: usize, k: usize, word: u64)
     requires { (3 ≤ k) × ((k ≤ 8) × (at + k ≤ length out.old)) }
     ensures { Put out.old at (bytes k word) out.new (at + k) }
 {
     if k < 4 {
-        two(out, at, word);
-        two(out, at + k - 2, word >> (8 * k - 16));
+        put_first::<2>(out, at, word);
+        put_first::<2>(out, at + k - 2, word >> (8 * k - 16));
     } else {
-        four(out, at, word);
-        four(out, at + k - 4, word >> (8 * k - 32));
+        put_first::<4>(out, at, word);
+        put_first::<4>(out, at + k - 4, word >> (8 * k - 32));
     }
 }
 
@@ -61,18 +46,9 @@ pub fn put_row(out: &mut [u8], at: usize, k: usize, word: u64)
     if k < 9 {
         put(out, at, k, word);
     } else {
-        eight(out, at, word % TOP);
+        put_first::<8>(out, at, word % TOP);
         out[at + 8] = (word / TOP) as u8;
     }
-}
-
-// A bar and a space: the first element of each of two rows.
-fn cross(out: &mut [u8], at: usize, bars: u64, spaces: u64)
-    requires { at + 2 ≤ length out.old }
-    ensures { Put out.old at (weave (bytes 1 bars) (bytes 1 spaces)) out.new (at + 2) }
-{
-    out[at] = (bars % 256) as u8;
-    out[at + 1] = (spaces % 256) as u8;
 }
 
 // A pair: the first digit's five elements in the bars, the second's in the spaces.
@@ -80,9 +56,10 @@ pub fn put_pair(out: &mut [u8], at: usize, bars: u64, spaces: u64)
     requires { at + 10 ≤ length out.old }
     ensures { Put out.old at (weave (bytes 5 bars) (bytes 5 spaces)) out.new (at + 10) }
 {
-    cross(out, at, bars, spaces);
-    cross(out, at + 2, bars >> 8, spaces >> 8);
-    cross(out, at + 4, bars >> 16, spaces >> 16);
-    cross(out, at + 6, bars >> 24, spaces >> 24);
-    cross(out, at + 8, bars >> 32, spaces >> 32);
+    let bars = bars.to_le_bytes();
+    let spaces = spaces.to_le_bytes();
+    for i in 0..5 {
+        out[at + 2 * i] = bars[i];
+        out[at + 2 * i + 1] = spaces[i];
+    }
 }

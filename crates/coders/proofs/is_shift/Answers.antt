@@ -1,14 +1,17 @@
 -- `is_shift`: /, + and % begin a pair, where full ASCII is drawn.
 -- Assumes nothing.
-use mathlib.Core.Path.{◌∙◌}
-use Rattle.coders.proofs.Numbers.{as-shift, shift-low, shift_from, unshifted}
+use Rattle.std.proofs.Common.{◌∙◌, arith, ne_eqb}
+use Rattle.coders.proofs.Numbers.{as-shift, shift-low, shift-mid, shift-high, unshifted}
 use Rattle.coders.proofs.is_shift.Goals as goal
 
-pub returns-then-drawn_as-ne2 : goal.returns-then-drawn_as-ne2
-returns-then-drawn_as-ne2 c = unshifted _ _ _ c.if-drawn_as-ne2.true ∙ as-shift _ _ _ _ _ c.drawn_as.ensures
+pub returns-in-40 : goal.returns-in-40
+returns-in-40 c = shift-mid _ _ _ c.if-drawn_as-eq2.true (omega arith) (omega arith) ∙ as-shift _ _ _ _ _ c.drawn_as.ensures
 
-pub returns-then-value-lt40 : goal.returns-then-value-lt40
-returns-then-value-lt40 c = shift-low _ _ _ c.if-drawn_as-ne2.false c.if-value-lt40.true ∙ as-shift _ _ _ _ _ c.drawn_as.ensures
+pub returns-in_default : goal.returns-in_default
+returns-in_default c = shift-low _ _ _ c.if-drawn_as-eq2.true (omega arith) ∙ as-shift _ _ _ _ _ c.drawn_as.ensures
 
-pub returns : goal.returns
-returns c = shift_from _ _ _ c.if-drawn_as-ne2.false c.if-value-lt40.false ∙ as-shift _ _ _ _ _ c.drawn_as.ensures
+pub returns-in_default-2 : goal.returns-in_default-2
+returns-in_default-2 c = shift-high _ _ _ c.if-drawn_as-eq2.true (omega arith) ∙ as-shift _ _ _ _ _ c.drawn_as.ensures
+
+pub returns-else-drawn_as-eq2 : goal.returns-else-drawn_as-eq2
+returns-else-drawn_as-eq2 c = ne_eqb _ 2 c.if-drawn_as-eq2.false ∙ unshifted _ _ _ c.if-drawn_as-eq2.false ∙ as-shift _ _ _ _ _ c.drawn_as.ensures

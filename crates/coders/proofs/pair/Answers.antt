@@ -1,7 +1,6 @@
 -- `pair`: the three shift characters, each with the bytes that stand behind it, where full ASCII is drawn.
 -- Assumes nothing.
-use mathlib.Core.Path.{◌∙◌}
-use borrow.Author.Rules.{rules}
+use Rattle.std.proofs.Common.{◌∙◌, rules}
 use Rattle.coders.proofs.Numbers.{as-for, unpaired, pair-full, pair-none}
 use Rattle.coders.proofs.pair.Goals as goal
 

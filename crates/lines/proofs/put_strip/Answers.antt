@@ -1,14 +1,12 @@
 -- `put_strip`: the widths or -, and the newline.
 -- Assumes nothing.
-use native.Mathlib.Omega.{arith}
 use Rattle.lines.proofs.Texts.{drawn-shown, refused-shown}
 use Rattle.lines.proofs.put_strip.Goals as goal
+use Rattle.lines.proofs.put_strip.Goals.{then-said-eq0, else-said-eq0}
 
-pub returns-then-said-eq0 : goal.returns-then-said-eq0
-returns-then-said-eq0 c =
-    drawn-shown c.args.said c.args.room.now c.if-said-eq0.true c.put_widths-end.ensures.put
-    (omega (arith, c.requires.count_le_longest c.if-said-eq0.true))
-
-pub returns-else-said-eq0 : goal.returns-else-said-eq0
-returns-else-said-eq0 c =
-    refused-shown c.args.out.now c.args.at c.args.said c.args.room.now c.if-said-eq0.false (omega arith)
+pub returns-clause-put : goal.returns-clause-put
+returns-clause-put c =
+    elim c.if-said-eq0.branch [
+      | then-said-eq0 w ↦ drawn-shown c.args.said c.args.room.now w.if-said-eq0.true w.widths.ensures.put (rw w.line-is at c.byte-2.ensures.put)
+      | else-said-eq0 w ↦ refused-shown c.args.said c.args.room.now w.if-said-eq0.false w.byte.ensures.put (rw w.line-is at c.byte-2.ensures.put)
+    ]

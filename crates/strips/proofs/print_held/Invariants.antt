@@ -1,9 +1,9 @@
--- `print_held` takes no more than is held: each roomful is taken of what is left.
-use Rattle.std.proofs.Common.{◌≡◌, ◌-◌, ◌≤◌, length}
+-- `print_held` takes no more than is held: each roomful is taken of what is left, and a full one takes something.
+use Rattle.std.proofs.Common.{◌-◌, ◌≤◌, length}
 use Rattle.strips.proofs.print_held.Given as goal
 
-abbrev pub invariant-loop-taken : goal.invariant-loop-taken
-invariant-loop-taken l = (l.taken ≤ length l.held) × (length l.room ≡ length l.initial.room)
+abbrev pub invariant-loop-run : goal.invariant-loop-run
+invariant-loop-run l = l.taken ≤ length l.held
 
-abbrev pub decreases-loop-taken : goal.decreases-loop-taken
-decreases-loop-taken l = length l.held - l.taken
+abbrev pub decreases-loop-run : goal.decreases-loop-run
+decreases-loop-run l = length l.held - l.taken

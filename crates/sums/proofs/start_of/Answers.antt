@@ -7,17 +7,17 @@ use Rattle.sums.proofs.start_of.Goals as goal
 pub returns-in-1 : goal.returns-in-1
 returns-in-1 c =
     let a = c.args in
-    begun-43 a.symbology a.n c.sum_by.result (omega arith) (omega arith) c.sum_by.ensures
+    begun-43 a.symbology a.n c.by.result (omega arith) (omega arith) c.by.ensures
 
-pub returns-then-n-eq1 : goal.returns-then-n-eq1
-returns-then-n-eq1 c =
+pub returns-in-4-to-9 : goal.returns-in-4-to-9
+returns-in-4-to-9 c =
     let a = c.args in
-    begun-odd a.symbology a.n c.sum_by-then-n-eq1.result (omega arith) (omega arith) c.if-n-eq1.true c.sum_by-then-n-eq1.ensures
+    begun-odd a.symbology a.n c.by-in-4-to-9.result (omega arith) (omega arith) c.if-n-eq1.true c.by-in-4-to-9.ensures
 
-pub returns-else-n-eq1 : goal.returns-else-n-eq1
-returns-else-n-eq1 c =
+pub returns-in-4-to-9-2 : goal.returns-in-4-to-9-2
+returns-in-4-to-9-2 c =
     let a = c.args in
-    begun-even a.symbology a.n c.sum_by-else-n-eq1.result (omega arith) (omega arith) c.if-n-eq1.false c.sum_by-else-n-eq1.ensures
+    begun-even a.symbology a.n c.by-in-4-to-9-2.result (omega arith) (omega arith) c.if-n-eq1.false c.by-in-4-to-9-2.ensures
 
 pub returns-in_default : goal.returns-in_default
 returns-in_default c =
@@ -25,6 +25,6 @@ returns-in_default c =
       | inl w ↦ absurd (grind arith)
       | inr k ↦ elim k [
         | inl w ↦ absurd (grind arith)
-        | inr w ↦ begun-none c.args.symbology c.args.n c.sum_by-in_default.result w c.sum_by-in_default.ensures
+        | inr w ↦ begun-none c.args.symbology c.args.n c.by-in_default.result w c.by-in_default.ensures
       ]
     ]

@@ -1,18 +1,13 @@
 -- `behind_percent` gives the bytes of the pairs with %: each arm of the match is one test over the characters that it takes.
 -- Assumes nothing.
-use borrow.Author.Rules.{rules}
-use mathlib.Core.Path.{refl, sym}
-use mathlib.Core.List.{List, [], ◌∷◌}
-use Prim.Native.Nat.{ℕ, ◌+◌, ◌-◌}
-use native.Mathlib.Omega.{arith}
+use Rattle.std.proofs.Common.{rules, refl, List, [], ◌∷◌, ℕ, ◌+◌, ◌-◌, arith}
 use Rattle.laws.specs.Search.{index_in}
 use Rattle.tables.specs.Alphabet.{value_of}
 use Rattle.tables.specs.Code39.{alphabet39, chars39}
 use Rattle.tables.specs.FullAscii.{drawing, ranges}
 use Rattle.symbologies.specs.Coders.{full_coder}
-use Rattle.coders.specs.Pieces.{edge}
-use Rattle.symbologies.proofs.Coders.{back, full-own}
-use Rattle.coders.proofs.Items.{owns, lost}
+use Rattle.symbologies.proofs.Coders.{back}
+use Rattle.coders.proofs.Items.{own, owns, lost}
 use Rattle.coders.proofs.full_ascii.behind_percent.Goals as goal
 
 -- the single characters, the last arm first
@@ -20,10 +15,10 @@ abbrev keys : List ℕ
 keys = 32 ∷ 31 ∷ []
 
 pub returns-in-31 : goal.returns-in-31
-returns-in-31 c = rw c.in-31.is (sym (full-own edge 64 42 (31 ∷ []) (unfold full_coder value_of alphabet39 chars39 index_in drawing ranges in refl)))
+returns-in-31 c = rw c.in-31.is (own 64 42 (31 ∷ []) refl (unfold full_coder value_of alphabet39 chars39 index_in drawing ranges in refl))
 
 pub returns-in-32 : goal.returns-in-32
-returns-in-32 c = rw c.in-32.is (sym (full-own edge 96 42 (32 ∷ []) (unfold full_coder value_of alphabet39 chars39 index_in drawing ranges in refl)))
+returns-in-32 c = rw c.in-32.is (own 96 42 (32 ∷ []) refl (unfold full_coder value_of alphabet39 chars39 index_in drawing ranges in refl))
 
 pub returns-in-15-to-19 : goal.returns-in-15-to-19
 unfolding full_coder value_of alphabet39 chars39 index_in drawing ranges

@@ -1,10 +1,6 @@
 -- `behind_plus` gives the bytes of the pairs with +: each arm of the match is one test over the characters that it takes.
 -- Assumes nothing.
-use borrow.Author.Rules.{rules}
-use mathlib.Core.Path.{refl}
-use mathlib.Core.List.{[], ◌∷◌}
-use Prim.Native.Nat.{◌+◌, ◌-◌}
-use native.Mathlib.Omega.{arith}
+use Rattle.std.proofs.Common.{rules, refl, [], ◌∷◌, ◌+◌, ◌-◌, arith}
 use Rattle.laws.specs.Search.{index_in}
 use Rattle.tables.specs.Alphabet.{value_of}
 use Rattle.tables.specs.Code39.{alphabet39, chars39}

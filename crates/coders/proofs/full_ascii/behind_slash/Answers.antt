@@ -1,18 +1,13 @@
 -- `behind_slash` gives the bytes of the pairs with /: each arm of the match is one test over the characters that it takes.
 -- Assumes nothing.
-use borrow.Author.Rules.{rules}
-use mathlib.Core.Path.{refl, sym}
-use mathlib.Core.List.{List, [], ◌∷◌}
-use Prim.Native.Nat.{ℕ, ◌+◌, ◌-◌}
-use native.Mathlib.Omega.{arith}
+use Rattle.std.proofs.Common.{rules, refl, List, [], ◌∷◌, ℕ, ◌+◌, ◌-◌, arith}
 use Rattle.laws.specs.Search.{index_in}
 use Rattle.tables.specs.Alphabet.{value_of}
 use Rattle.tables.specs.Code39.{alphabet39, chars39}
 use Rattle.tables.specs.FullAscii.{drawing, ranges}
 use Rattle.symbologies.specs.Coders.{full_coder}
-use Rattle.coders.specs.Pieces.{edge}
-use Rattle.symbologies.proofs.Coders.{back, full-own}
-use Rattle.coders.proofs.Items.{owns, lost}
+use Rattle.symbologies.proofs.Coders.{back}
+use Rattle.coders.proofs.Items.{own, owns, lost}
 use Rattle.coders.proofs.full_ascii.behind_slash.Goals as goal
 
 -- the single characters, the last arm first
@@ -20,10 +15,10 @@ abbrev keys : List ℕ
 keys = 35 ∷ 24 ∷ []
 
 pub returns-in-24 : goal.returns-in-24
-returns-in-24 c = rw c.in-24.is (sym (full-own edge 47 40 (24 ∷ []) (unfold full_coder value_of alphabet39 chars39 index_in drawing ranges in refl)))
+returns-in-24 c = rw c.in-24.is (own 47 40 (24 ∷ []) refl (unfold full_coder value_of alphabet39 chars39 index_in drawing ranges in refl))
 
 pub returns-in-35 : goal.returns-in-35
-returns-in-35 c = rw c.in-35.is (sym (full-own edge 58 40 (35 ∷ []) (unfold full_coder value_of alphabet39 chars39 index_in drawing ranges in refl)))
+returns-in-35 c = rw c.in-35.is (own 58 40 (35 ∷ []) refl (unfold full_coder value_of alphabet39 chars39 index_in drawing ranges in refl))
 
 pub returns-in-10-to-21 : goal.returns-in-10-to-21
 unfolding full_coder value_of alphabet39 chars39 index_in drawing ranges

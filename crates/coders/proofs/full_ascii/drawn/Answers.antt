@@ -1,15 +1,6 @@
 -- `drawn` gives the drawing codes: each arm of the match is one test over the bytes that it takes.
 -- Assumes nothing.
-use borrow.Author.Rules.{rules}
-use mathlib.Core.Path.{◌≡◌, refl}
-use mathlib.Core.Bool.{true}
-use mathlib.Core.List.{List, [], ◌∷◌}
-use Prim.Native.Nat.{ℕ, ◌+◌, ◌-◌, ◌<◌, ◌≤◌}
-use native.Mathlib.Omega.{arith}
-use lib.Dec.{leb}
-use mir.Syntax.{w8}
-use mir.Val.{Fits}
-use borrow.Author.Tests.{leb-true}
+use Rattle.std.proofs.Common.{rules, ◌≡◌, refl, true, List, [], ◌∷◌, ℕ, ◌+◌, ◌-◌, ◌<◌, ◌≤◌, arith, leb, w8, Fits, leb-true}
 use Rattle.laws.specs.Search.{index_in}
 use Rattle.laws.proofs.Arms.{alike-there}
 use Rattle.tables.specs.Alphabet.{value_of}

@@ -1,53 +1,32 @@
 -- `run_held`: what is taken and written, and the same run over what is left, are all along the run over the held bytes.
 -- Assumes nothing.
-use mathlib.Core.Path.{refl}
-use native.Mathlib.Omega.{arith}
-use Rattle.jobs.proofs.Bodies.{body-long}
-use Rattle.jobs.proofs.Runs.{next, ended-all, ended-unknown, ended-cut, ended-full, front-unknown, front_cut, front-whole}
+use Rattle.std.proofs.Common.{refl, ◌∙◌, arith}
+use Rattle.std.proofs.lemmas.List.{take_rest}
+use Rattle.jobs.proofs.Runs.{begun, next, ended-none, ended-full, counted-one, counted-test}
 use Rattle.jobs.proofs.run.run_held.Goals as goal
 
-pub returns-then-body-eq0 : goal.returns-then-body-eq0
-returns-then-body-eq0 c =
-    let l = c.loop-taken in
-    let a = c.args in
-    let both = ended-unknown l.invariant (front-unknown a.held.now l.taken c.loop-taken-test.true c.body_of-body.result c.body_of-body.ensures c.if-body-eq0.true) c.halted.result c.halted.ensures in
+pub loop-record-init : goal.loop-record-init
+loop-record-init c =
+    record { going = begun c.args.held.now c.args.records c.args.drawn c.args.out.now; records_fit = omega arith; drawn_fits = omega arith }
+
+pub returns-in-Err : goal.returns-in-Err
+returns-in-Err c =
+    let both = ended-none c.loop-record.invariant.going c.in-Err.ended (rw take_rest at c.in-Err.ensures) _ refl in
     record { value = both.0; out_after = both.1.0; taken_in_bounds = both.1.1.0; written_in_bounds = both.1.1.1 }
 
-pub returns-then-held-taken : goal.returns-then-held-taken
-returns-then-held-taken c =
-    let l = c.loop-taken in
-    let a = c.args in
-    let both = ended-cut l.invariant (front_cut a.held.now l.taken c.loop-taken-test.true c.body_of-body.result c.body_of-body.ensures c.if-body-eq0.false (omega arith)) c.halted-then-held-taken.result c.halted-then-held-taken.ensures in
+pub returns-then-out-run-lt-LONGEST_LINE : goal.returns-then-out-run-lt-LONGEST_LINE
+returns-then-out-run-lt-LONGEST_LINE c =
+    let both = ended-full c.loop-record.invariant.going _ _ (rw take_rest at c.in-Ok.ensures) (omega arith) _ refl in
     record { value = both.0; out_after = both.1.0; taken_in_bounds = both.1.1.0; written_in_bounds = both.1.1.1 }
 
-pub returns-then-out-written-lt-LONGEST_LINE : goal.returns-then-out-written-lt-LONGEST_LINE
-returns-then-out-written-lt-LONGEST_LINE c =
-    let l = c.loop-taken in
-    let a = c.args in
-    let both = ended-full l.invariant _ _ (front-whole a.held.now l.taken c.loop-taken-test.true c.body_of-body.result c.body_of-body.ensures c.if-body-eq0.false _ _ _ (omega arith) refl refl refl) (omega arith)
-    c.halted-then-out-written-lt-LONGEST_LINE.result c.halted-then-out-written-lt-LONGEST_LINE.ensures in
-    record { value = both.0; out_after = both.1.0; taken_in_bounds = both.1.1.0; written_in_bounds = both.1.1.1 }
-
--- a body holds at least mode and count
-pub bounds-held-taken-in-loop-taken-2 : goal.bounds-held-taken-in-loop-taken-2
-bounds-held-taken-in-loop-taken-2 c =
-    omega (arith, body-long _ c.body_of-body.ensures c.if-body-eq0.false)
-
-pub slice_bounds-put_line-count : goal.slice_bounds-put_line-count
-slice_bounds-put_line-count c =
-    omega (arith, body-long _ c.body_of-body.ensures c.if-body-eq0.false)
-
-pub slice_bounds-put_line-start : goal.slice_bounds-put_line-start
-slice_bounds-put_line-start c =
-    omega (arith, body-long _ c.body_of-body.ensures c.if-body-eq0.false)
-
-pub loop-taken-preserved : goal.loop-taken-preserved
-loop-taken-preserved c =
-    let l = c.loop-taken in
-    let a = c.args in
-    next l.invariant _ _ _ _ _ _ (front-whole a.held.now l.taken c.loop-taken-test.true c.body_of-body.result c.body_of-body.ensures c.if-body-eq0.false _ _ _ (omega arith) refl refl refl) (omega arith)
-    (omega (arith, c.body_of-body.ensures)) (omega arith) c.counted-number.ensures _ c.symbology_of-symbology.ensures c.put_line-line.ensures.put c.put_line-line.result.drawn c.put_line-line.ensures.drawn_value
-    c.counted_if-good.ensures
-
-pub returns : goal.returns
-returns c = let both = ended-all c.loop-taken.invariant c.loop-taken-test.false c.halted-2.result c.halted-2.ensures in record { value = both.0; out_after = both.1.0; taken_in_bounds = both.1.1.0; written_in_bounds = both.1.1.1 }
+pub loop-record-preserved : goal.loop-record-preserved
+loop-record-preserved c =
+    let l = c.loop-record in
+    let n = c.saturating_add.ensures ∙ counted-one l.run.records l.invariant.records_fit in
+    let d = c.saturating_add-in-loop-record.ensures in
+    record {
+      going = next l.invariant.going _ _ _ _ _ _ _ (rw take_rest at c.in-Ok.ensures) (omega arith) refl n _ c.symbology_of.ensures c.put_line-line.ensures.put
+          c.put_line-line.result.drawn c.put_line-line.ensures.drawn_value (d ∙ rw c.from.ensures (counted-test c.put_line-line.result.drawn l.run.drawn l.invariant.drawn_fits));
+      records_fit = omega arith;
+      drawn_fits = omega arith;
+    }

@@ -1,11 +1,9 @@
--- `count_digits`: one digit for each division by ten, and one for what is left below ten.
+-- `count_digits`: one more than the power of ten that the number reaches.
 -- Assumes nothing.
-use native.Mathlib.Omega.{arith}
-use Rattle.lines.proofs.Digits.{begun, more}
+use Rattle.lines.proofs.Digits.{counted}
 use Rattle.lines.proofs.text.count_digits.Goals as goal
 
-pub loop-left-init : goal.loop-left-init
-loop-left-init c = begun c.args.n (omega arith)
-
-pub loop-left-preserved : goal.loop-left-preserved
-loop-left-preserved c = more c.args.n c.loop-left.left c.loop-left.k c.loop-left-test.true c.loop-left.invariant
+pub returns-clause-value : goal.returns-clause-value
+returns-clause-value c =
+    let e = c.checked_ilog10.ensures in
+    rw c.unwrap_or.ensures (counted c.args.n c.checked_ilog10.result e.none e.power_le e.next_power_gt e.bound)

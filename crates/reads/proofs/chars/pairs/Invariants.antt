@@ -6,6 +6,3 @@ use Rattle.reads.proofs.chars.pairs.Given as goal
 
 abbrev pub invariant-loop-i : goal.invariant-loop-i
 invariant-loop-i l = Paired (shown_in 5 l.initial.codes) l.n l.codes l.i
-
-abbrev pub decreases-loop-i : goal.decreases-loop-i
-decreases-loop-i l = l.i

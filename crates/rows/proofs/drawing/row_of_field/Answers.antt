@@ -1,31 +1,34 @@
 -- `row_of_field`: 1, 2, 3, 13 by the verdict on the field, and then what `fill` says.
 -- Assumes nothing.
-use mathlib.Core.Path.{◌≡◌, refl, sym, ◌∙◌}
-use Prim.Native.Nat.{◌-◌}
-use native.Mathlib.Omega.{arith}
+use Rattle.std.proofs.Common.{◌∙◌, refl, sym, length-take-le}
+use Rattle.std.proofs.lemmas.Result.{err_from_is_err_and}
 use Rattle.symbologies.proofs.Verdicts.{Held, field-held}
 use Rattle.rows.proofs.Returns.{field-turned, field-given}
 use Rattle.rows.proofs.drawing.row_of_field.Goals as goal
 
+pub returns-in_err-judge_field : goal.returns-in_err-judge_field
+returns-in_err-judge_field c =
+    let a = c.args in
+    let p = err_from_is_err_and c.from_residual.result c.from_residual.ensures.1 in
+    rw (p.1, p.2) (field-turned a.symbology a.mode a.count a.field.now _ (sym c.judge_field.ensures ∙ c.in_err-judge_field.was))
+
 pub slice_bounds-fill-end : goal.slice_bounds-fill-end
 slice_bounds-fill-end c =
     let a = c.args in
-    (field-held a.symbology a.mode a.count a.field.now (sym c.judge_field.ensures ∙ c.in-Given.is)).within
+    sym (length-take-le a.count a.field.now (field-held a.symbology a.mode a.count a.field.now (sym c.judge_field.ensures ∙ c.in_ok-judge_field.was)).within)
 
 pub fill-requires : goal.fill-requires
 fill-requires c =
     let a = c.args in
-    let h : Held a.mode a.count a.field.now = field-held a.symbology a.mode a.count a.field.now (sym c.judge_field.ensures ∙ c.in-Given.is) in
-    let z : a.count - 0 ≡ a.count = omega arith in
-    (h.mode, ((rw z h.some, rw z h.few), refl))
+    let h : Held a.mode a.count a.field.now = field-held a.symbology a.mode a.count a.field.now (sym c.judge_field.ensures ∙ c.in_ok-judge_field.was) in
+    (h.mode, ((h.some, h.few), refl))
 
-pub returns-in-Turned : goal.returns-in-Turned
-returns-in-Turned c =
+pub returns-in-Ok : goal.returns-in-Ok
+returns-in-Ok c =
     let a = c.args in
-    c.refuse.ensures ∙ field-turned a.symbology a.mode a.count a.field.now _ (sym c.judge_field.ensures ∙ c.in-Turned.is)
+    c.in-Ok.ensures ∙ field-given a.symbology a.mode a.count a.field.now (sym c.judge_field.ensures ∙ c.in_ok-judge_field.was)
 
-pub returns-in-Given : goal.returns-in-Given
-returns-in-Given c =
+pub returns-in-Err : goal.returns-in-Err
+returns-in-Err c =
     let a = c.args in
-    let z : a.count - 0 ≡ a.count = omega arith in
-    (rw z at c.fill.ensures) ∙ field-given a.symbology a.mode a.count a.field.now (sym c.judge_field.ensures ∙ c.in-Given.is)
+    c.refuse.ensures ∙ c.in-Err.ensures ∙ field-given a.symbology a.mode a.count a.field.now (sym c.judge_field.ensures ∙ c.in_ok-judge_field.was)

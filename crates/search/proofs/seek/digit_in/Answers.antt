@@ -1,40 +1,33 @@
--- `digit_in` looks at one word a turn: what is found, and what the words that are left give, is always the same.
+-- `digit_in` looks at one word a turn, and has found what stands among those behind it.
 -- Assumes nothing.
-use mathlib.Core.Path.{◌≡◌, sym, ◌∙◌}
-use mathlib.Core.List.{List, []}
-use Prim.Native.Nat.{ℕ, suc, ◌+◌, ◌-◌}
-use native.Mathlib.Omega.{arith}
-use borrow.Author.Tests.{eq-eqb, ne_eqb}
-use lib.Dec.{eqb}
-use lib.ListN.{get_or}
-use Rattle.laws.specs.Search.{pick}
+use Rattle.std.proofs.Common.{ℕ, List, [], ◌≡◌, sym, get_or, arith, eq-eqb, ne_eqb}
 use Rattle.shapes.specs.Searched.{digit_in}
-use Rattle.search.proofs.Matches.{match-next, set-bound}
+use Rattle.search.proofs.Matches.{match-last, match-bound}
 use Rattle.search.proofs.seek.digit_in.Goals as goal
-use Rattle.search.proofs.seek.digit_in.Goals.{then-sets-set, else-sets-set}
+use Rattle.search.proofs.seek.digit_in.Goals.{then-row-word, else-row-word}
 
 pub returns-then-word-eq0 : goal.returns-then-word-eq0
 unfolding digit_in
 returns-then-word-eq0 c = rw c.if-word-eq0.true
 
+pub loop-digit-preserved : goal.loop-digit-preserved
+loop-digit-preserved c =
+    let w = c.args.word in
+    let d = c.loop-digit.digit in
+    let ws : List ℕ = get_or c.args.sets.now c.args.set [] in
+    let m = match-last w (ne_eqb 0 w (λ e. c.if-word-eq0.false (sym e))) ws d 0 in
+    elim c.if-row-word.branch [
+      | then-row-word q ↦ omega (arith, rw (eq-eqb (get_or ws d 0) w q.if-row-word.true) at m)
+      | else-row-word q ↦ omega (arith, rw (ne_eqb (get_or ws d 0) w q.if-row-word.false) at m)
+    ]
+
 pub overflow_add-found-in-loop-digit : goal.overflow_add-found-in-loop-digit
 overflow_add-found-in-loop-digit c =
-    let a = c.args in
-    let d = c.loop-digit.digit in
-    let ws : List ℕ = get_or a.sets.now a.set [] in
-    let n : 10 - d ≡ suc (10 - (d + 1)) = omega arith in
-    let r : c.if-sets-set.found ≡ pick (eqb (get_or ws d 0) a.word) (d + 1) 0
-    = elim c.if-sets-set.branch [
-      | then-sets-set w ↦ w.found-is ∙ rw (eq-eqb (get_or ws d 0) a.word w.if-sets-set.true)
-      | else-sets-set w ↦ w.found-is ∙ rw (ne_eqb (get_or ws d 0) a.word w.if-sets-set.false)
-    ] in
-    let m = match-next a.word (ne_eqb 0 a.word (λ e. c.if-word-eq0.false (sym e))) ws (10 - (d + 1)) d in
-    let i = rw n at c.loop-digit.invariant.1 in
-    omega (arith, i, m, r, set-bound a.word ws)
+    let b = match-bound 10 c.args.word (get_or c.args.sets.now c.args.set []) c.loop-digit.digit 0 (omega arith) in
+    elim c.if-row-word.branch [ then-row-word q ↦ omega (arith, b) | else-row-word q ↦ omega (arith, b) ]
 
 pub returns : goal.returns
 unfolding digit_in
 returns c =
-    let a = c.args in
-    let z : 10 - c.loop-digit.digit ≡ 0 = omega arith in
-    rw (ne_eqb a.word 0 c.if-word-eq0.false) (omega (arith, rw z at c.loop-digit.invariant.1))
+    let e : c.loop-digit.digit ≡ 10 = omega arith in
+    rw (ne_eqb c.args.word 0 c.if-word-eq0.false, ← e) c.loop-digit.invariant

@@ -1,7 +1,6 @@
 -- `found_in`: the row of the digit, where there is one.
 -- Assumes nothing.
-use Prim.Native.Nat.{◌+◌}
-use native.Mathlib.Omega.{arith}
+use Rattle.std.proofs.Common.{◌+◌, arith}
 use Rattle.search.proofs.Matches.{digit-bound}
 use Rattle.search.proofs.seek.found_in.Goals as goal
 

@@ -1,6 +1,6 @@
 -- `ten_of`: the half-byte of the definition.
 -- Assumes nothing.
-use mathlib.Core.Path.{refl}
+use Rattle.std.proofs.Common.{refl}
 use Rattle.shapes.specs.Searched.{ten_of}
 use Rattle.search.proofs.seek.ten_of.Goals as goal
 

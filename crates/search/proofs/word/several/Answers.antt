@@ -1,25 +1,22 @@
--- `several`: four elements, and those behind them.
+-- `several`: eight elements are the bytes of their word.
 -- Assumes nothing.
-use mathlib.Core.Path.{◌≡◌}
-use Prim.Native.Nat.{◌+◌, ◌-◌}
-use native.Mathlib.Omega.{arith}
-use Rattle.search.proofs.Low.{low-split, few-bound}
+use Rattle.std.proofs.Common.{List, [], ◌∷◌, ℕ, ◌≡◌, ◌∙◌, length, get_or, w64, arith}
+use Rattle.std.specs.Int.{from_le_bytes}
+use Rattle.shapes.specs.Sets.{low}
 use Rattle.search.proofs.word.several.Goals as goal
 
-pub overflow_mul-result : goal.overflow_mul-result
-overflow_mul-result c =
-    let a = c.args in
-    omega (arith, c.few-3.ensures, few-bound a.strip.now (λ i. omega (arith, c.type_inv.strip i)) (a.k - 4) (a.at + 4) (omega arith))
+eight : (xs : List ℕ) → length xs ≡ 8
+    → from_le_bytes w64 (get_or xs 0 0 ∷ get_or xs 1 0 ∷ get_or xs 2 0 ∷ get_or xs 3 0 ∷ get_or xs 4 0 ∷ get_or xs 5 0 ∷ get_or xs 6 0 ∷ get_or xs 7 0 ∷ []) ≡ low xs
+eight (a ∷ b ∷ c ∷ d ∷ e ∷ f ∷ g ∷ h ∷ []) l = omega arith
+eight [] l = absurd (omega arith)
+eight (a ∷ []) l = absurd (omega arith)
+eight (a ∷ b ∷ []) l = absurd (omega arith)
+eight (a ∷ b ∷ c ∷ []) l = absurd (omega arith)
+eight (a ∷ b ∷ c ∷ d ∷ []) l = absurd (omega arith)
+eight (a ∷ b ∷ c ∷ d ∷ e ∷ []) l = absurd (omega arith)
+eight (a ∷ b ∷ c ∷ d ∷ e ∷ f ∷ []) l = absurd (omega arith)
+eight (a ∷ b ∷ c ∷ d ∷ e ∷ f ∷ g ∷ []) l = absurd (omega arith)
+eight (a ∷ b ∷ c ∷ d ∷ e ∷ f ∷ g ∷ h ∷ i ∷ xs) l = absurd (omega arith)
 
-pub overflow_add-result : goal.overflow_add-result
-overflow_add-result c =
-    let a = c.args in
-    let b = few-bound a.strip.now (λ i. omega (arith, c.type_inv.strip i)) in
-    omega (arith, c.few-2.ensures, c.few-3.ensures, b 4 a.at (omega arith), b (a.k - 4) (a.at + 4) (omega arith))
-
-pub returns : goal.returns
-returns c =
-    let a = c.args in
-    let e : 4 + (a.k - 4) ≡ a.k = omega arith in
-    let s = rw e at (low-split a.strip.now a.at 4 (a.k - 4)) in
-    omega (arith, c.few-2.ensures, c.few-3.ensures, s)
+pub returns-in-len8-up : goal.returns-in-len8-up
+returns-in-len8-up c = c.from_le_bytes-in-len8-up.ensures ∙ eight c.args.elements.now (omega (arith, c.in-len8-up.len_at_least))

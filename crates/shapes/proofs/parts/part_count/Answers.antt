@@ -1,11 +1,6 @@
 -- `part_count`: two of each symbology but four, which have three; each arm is one test over the numbers that it takes.
 -- Assumes nothing.
-use mathlib.Core.Path.{refl}
-use mathlib.Core.List.{[], ◌∷◌}
-use Prim.Native.Nat.{ℕ}
-use native.Mathlib.Omega.{arith}
-use borrow.Author.Rules.{rules}
-use lib.ListN.{length}
+use Rattle.std.proofs.Common.{refl, [], ◌∷◌, ℕ, arith, rules, length}
 use Rattle.laws.proofs.Arms.{agree}
 use Rattle.symbologies.specs.Parts.{starred, lettering, industrial, interleaved, matrix, halved}
 use Rattle.symbologies.specs.Symbologies.{symbologies, symbology_of}

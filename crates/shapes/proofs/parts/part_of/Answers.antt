@@ -1,19 +1,10 @@
--- `part_of`: the arms are the lines of each symbology, counted by threes; these mean its parts by computation, and where no arm is, there is
--- none.
+-- `part_of`: the arms are the lines of each symbology; these mean its parts by computation, and where no arm is, there is none.
 -- Assumes nothing.
 -- ---- the lines of each symbology
 -- ---- what they mean
 -- ---- an arm, and none
-use borrow.Author.Rules.{rules}
-use mathlib.Core.Path.{◌≡◌, refl, sym, ◌∙◌}
-use mathlib.Core.Bool.{Bool, true, false}
-use mathlib.Core.List.{List, [], ◌∷◌, map}
-use Prim.Native.Nat.{ℕ, zero, suc, ◌+◌, ◌*◌, ◌/◌, ◌%◌, ◌<◌, ◌≤◌}
-use native.Mathlib.Omega.{arith}
-use lib.Dec.{leb}
-use lib.ListN.{length, get_or, get_or-eq_default}
-use borrow.Author.Tests.{leb-true}
-use Rattle.laws.proofs.Arms.{Off, stretch}
+use Rattle.std.proofs.Common.{rules, ◌≡◌, refl, sym, ◌∙◌, inl, inr, ◌⊎◌, Bool, true, false, List, [], ◌∷◌, map, ℕ, zero, suc, zero-le, ◌<◌, ◌≤◌, arith, length, get_or}
+use lib.ListN.{get_or-eq_default}
 use Rattle.tables.specs.Alphabet.{rows_of, bits_of}
 use Rattle.tables.specs.Code39.{rows39, star39, alphabet39, chars39, table42}
 use Rattle.tables.specs.Codabar.{inner_rows, letter_rows, alphabet_codabar, table41}
@@ -31,6 +22,7 @@ use Rattle.shapes.specs.Searched.{digit_in, ten_of}
 use Rattle.shapes.specs.Described.{part_in, sound, closed, nothing, line_at, halves, readable, Describes}
 use Rattle.shapes.proofs.Lines.{all_lines, described}
 use Rattle.shapes.proofs.parts.part_of.Goals as goal
+use Rattle.shapes.proofs.parts.part_of.Goals.{in_default-via-in-3+in_default, in_default-via-in-4+in_default, in_default-via-in-5+in_default, in_default-via-in-6+in_default, in_default-via-in-7+in_default, in_default-via-in-8+in_default, in_default-via-in-9+in_default, in_default-via-in_default+then-this-lt1, in_default-via-in_default+else-this-lt1+then-this-lt3+in_default-this-7, in_default-via-in_default+else-this-lt1+else-this-lt3}
 
 abbrev mark : Bool → ℕ → ℕ → Mark
 mark g k w = record { gap = g; elements = k; word = w }
@@ -47,10 +39,9 @@ lines39 = between (mark false 9 0x1103010301010301) All (unit true 9 0 43) (mark
 abbrev letters : Count → Unit → Line
 letters c u = record { mark = mark false 0 0; count = c; unit = u }
 
-unfoldable lines_of : ℕ → List Line
-lines_of s =
-    get_or
-    ([]
+abbrev all_of : List (List Line)
+all_of =
+    []
     ∷ lines39
     ∷ lines39
     ∷ (letters (Of 1) (unit false 7 2 4) ∷ letters Inner (unit true 7 0 16) ∷ letters (Of 1) (unit true 7 2 4) ∷ [])
@@ -60,8 +51,10 @@ lines_of s =
     ∷ halves 6 20
     ∷ halves 4 10
     ∷ halves 6 10
-    ∷ [])
-    s []
+    ∷ []
+
+unfoldable lines_of : ℕ → List Line
+lines_of s = get_or all_of s []
 
 abbrev Meant : ℕ → Type 0
 Meant s = (i : ℕ) → Describes (sets_of s) (symbology_of s).parts i (line_at (lines_of s) i)
@@ -84,127 +77,122 @@ means (suc (suc (suc (suc (suc (suc (suc (suc zero)))))))) = by 8 refl refl refl
 means (suc (suc (suc (suc (suc (suc (suc (suc (suc zero))))))))) = by 9 refl refl refl
 means (suc (suc (suc (suc (suc (suc (suc (suc (suc (suc s)))))))))) = by (suc (suc (suc (suc (suc (suc (suc (suc (suc (suc s)))))))))) refl refl refl
 
-arm : (s i k : ℕ) (r : Line) → i ≤ 2 → 3 * s + i ≡ k → r ≡ line_at (lines_of (k / 3)) (k % 3) → Describes (sets_of s) (symbology_of s).parts i r
-arm s i k r h e q =
-    let a : k / 3 ≡ s = omega arith in
-    let b : k % 3 ≡ i = omega arith in
-    let f : r ≡ line_at (lines_of s) i = rw (a, b) at q in
-    rw f (means s i)
+arm : (s i k j : ℕ) (r : Line) → s ≡ k → i ≡ j → r ≡ line_at (lines_of k) j → Describes (sets_of s) (symbology_of s).parts i r
+arm s i k j r e f q = rw (e, f, q) (means k j)
 
-behind : (s i : ℕ) (r : Line) → length (lines_of s) ≤ i → r ≡ nothing → Describes (sets_of s) (symbology_of s).parts i r
+-- Code 39 with full ASCII and without
+starred-arm : (s i j : ℕ) (r : Line) → 1 ≤ s → s < 3 → i ≡ j → r ≡ line_at lines39 j → Describes (sets_of s) (symbology_of s).parts i r
+unfolding lines_of
+starred-arm zero i j r l h f q = absurd (omega arith)
+starred-arm (suc zero) i j r l h f q = arm 1 i 1 j r refl f q
+starred-arm (suc (suc zero)) i j r l h f q = arm 2 i 2 j r refl f q
+starred-arm (suc (suc (suc s))) i j r l h f q = absurd (omega arith)
+
+none : (s i k : ℕ) (r : Line) → s ≡ k → length (lines_of k) ≤ i → r ≡ nothing → Describes (sets_of s) (symbology_of s).parts i r
 unfolding line_at
-behind s i r h e =
-    let f : r ≡ line_at (lines_of s) i = e ∙ sym (get_or-eq_default (lines_of s) nothing h) in
-    rw f (means s i)
+none s i k r e h q =
+    let f : r ≡ line_at (lines_of k) i = q ∙ sym (get_or-eq_default (lines_of k) nothing h) in
+    arm s i k i r e refl f
 
-past : (s i : ℕ) (r : Line) → s < 256 → 2 < i → r ≡ nothing → Describes (sets_of s) (symbology_of s).parts i r
+starred-none : (s i : ℕ) (r : Line) → 1 ≤ s → s < 3 → 2 ≤ i → r ≡ nothing → Describes (sets_of s) (symbology_of s).parts i r
+unfolding line_at
+starred-none s i r l h m q = starred-arm s i i r l h refl (q ∙ sym (get_or-eq_default lines39 nothing m))
+
+beyond : (s i : ℕ) (r : Line) → 10 ≤ s → r ≡ nothing → Describes (sets_of s) (symbology_of s).parts i r
 unfolding lines_of
-past s i r l h =
-    let t : length (lines_of s) ≤ 3 = leb-true _ 3 (stretch [] 0 256 (λ s. leb (length (lines_of s)) 3) refl s (omega arith) l tt) in
-    behind s i r (omega arith)
+beyond s i r h q =
+    let e : lines_of s ≡ [] = get_or-eq_default all_of [] h in
+    none s i s r refl (rw e zero-le) q
 
-abbrev keys : List ℕ
-keys = 29 ∷ 28 ∷ 27 ∷ 26 ∷ 25 ∷ 24 ∷ 23 ∷ 22 ∷ 21 ∷ 19 ∷ 18 ∷ 16 ∷ 15 ∷ 13 ∷ 12 ∷ 11 ∷ 10 ∷ 9 ∷ 7 ∷ 6 ∷ 4 ∷ 3 ∷ []
-
-none : (s i : ℕ) (r : Line) → s < 256 → i ≤ 2 → Off keys (3 * s + i) → r ≡ nothing → Describes (sets_of s) (symbology_of s).parts i r
-unfolding lines_of
-none s i r l h o =
-    let a : (3 * s + i) / 3 ≡ s = omega arith in
-    let b : (3 * s + i) % 3 ≡ i = omega arith in
-    let t : leb (length (lines_of ((3 * s + i) / 3))) ((3 * s + i) % 3) ≡ true
-    = stretch keys 0 768 (λ b. leb (length (lines_of (b / 3))) (b % 3)) refl (3 * s + i) (omega arith) (omega arith) o in
-    behind s i r (leb-true _ i (rw (a, b) at t))
-
-pub returns-then-i-gt2 : goal.returns-then-i-gt2
-returns-then-i-gt2 c = past _ _ _ (search rules) c.if-i-gt2.true (rw c.bare.ensures at c.close.ensures)
-
-pub returns-in-3 : goal.returns-in-3
+pub returns-in-3-eq0 : goal.returns-in-3-eq0
 unfolding line_at lines_of
-returns-in-3 c = arm _ _ 3 _ c.if-i-gt2.false c.in-3.is (rw (c.bare-in-3.ensures, c.spaced.ensures) at c.line.ensures)
+returns-in-3-eq0 c = arm _ _ 3 0 _ c.in-3-eq0.is-0 c.in-3-eq0.is-1 (rw (c.new.ensures, c.new-in-3-eq0.ensures) at c.line.ensures)
 
-pub returns-in-4 : goal.returns-in-4
+pub returns-in-3-eq1 : goal.returns-in-3-eq1
 unfolding line_at lines_of
-returns-in-4 c = arm _ _ 4 _ c.if-i-gt2.false c.in-4.is (rw c.parted.ensures at c.close-in-4.ensures)
+returns-in-3-eq1 c = arm _ _ 3 1 _ c.in-3-eq1.is-0 c.in-3-eq1.is-1 (rw (c.new-in-3-eq1.ensures, c.parted.ensures, c.new-in-3-eq1-2.ensures) at c.line-in-3-eq1.ensures)
 
-pub returns-in-6 : goal.returns-in-6
+pub returns-in-3-eq2 : goal.returns-in-3-eq2
 unfolding line_at lines_of
-returns-in-6 c = arm _ _ 6 _ c.if-i-gt2.false c.in-6.is (rw (c.bare-in-6.ensures, c.spaced-in-6.ensures) at c.line-in-6.ensures)
+returns-in-3-eq2 c = arm _ _ 3 2 _ c.in-3-eq2.is-0 c.in-3-eq2.is-1 (rw (c.new-in-3-eq2.ensures, c.parted-in-3-eq2.ensures, c.new-in-3-eq2-2.ensures) at c.line-in-3-eq2.ensures)
 
-pub returns-in-7 : goal.returns-in-7
+pub returns-in-4-eq0 : goal.returns-in-4-eq0
 unfolding line_at lines_of
-returns-in-7 c = arm _ _ 7 _ c.if-i-gt2.false c.in-7.is (rw c.parted-in-7.ensures at c.close-in-7.ensures)
+returns-in-4-eq0 c = arm _ _ 4 0 _ c.in-4-eq0.is-0 c.in-4-eq0.is-1 (rw (c.new-in-4-eq0.ensures, c.parted-in-4-eq0.ensures, c.new-in-4-eq0-2.ensures) at c.line-in-4-eq0.ensures)
 
-pub returns-in-9 : goal.returns-in-9
+pub returns-in-4-eq1 : goal.returns-in-4-eq1
 unfolding line_at lines_of
-returns-in-9 c = arm _ _ 9 _ c.if-i-gt2.false c.in-9.is (rw (c.bare-in-9.ensures, c.one.ensures) at c.line-in-9.ensures)
+returns-in-4-eq1 c = arm _ _ 4 1 _ c.in-4-eq1.is-0 c.in-4-eq1.is-1 (rw (c.parted-in-4-eq1.ensures, c.new-in-4-eq1.ensures) at c.close.ensures)
 
-pub returns-in-10 : goal.returns-in-10
+pub returns-in-5-eq0 : goal.returns-in-5-eq0
 unfolding line_at lines_of
-returns-in-10 c = arm _ _ 10 _ c.if-i-gt2.false c.in-10.is (rw (c.bare-in-10.ensures, c.spaced-in-10.ensures) at c.line-in-10.ensures)
+returns-in-5-eq0 c = arm _ _ 5 0 _ c.in-5-eq0.is-0 c.in-5-eq0.is-1 (rw (c.new-in-5-eq0.ensures, c.new-in-5-eq0-2.ensures) at c.line-in-5-eq0.ensures)
 
-pub returns-in-11 : goal.returns-in-11
+pub returns-in-5-eq1 : goal.returns-in-5-eq1
 unfolding line_at lines_of
-returns-in-11 c = arm _ _ 11 _ c.if-i-gt2.false c.in-11.is (rw (c.bare-in-11.ensures, c.spaced-in-11.ensures) at c.line-in-11.ensures)
+returns-in-5-eq1 c = arm _ _ 5 1 _ c.in-5-eq1.is-0 c.in-5-eq1.is-1 (rw c.new-in-5-eq1.ensures at c.close-in-5-eq1.ensures)
 
-pub returns-in-12 : goal.returns-in-12
+pub returns-in-6-eq0 : goal.returns-in-6-eq0
 unfolding line_at lines_of
-returns-in-12 c = arm _ _ 12 _ c.if-i-gt2.false c.in-12.is (rw (c.bare-in-12.ensures, c.spaced-in-12.ensures) at c.line-in-12.ensures)
+returns-in-6-eq0 c = arm _ _ 6 0 _ c.in-6-eq0.is-0 c.in-6-eq0.is-1 (rw (c.new-in-6-eq0.ensures, c.parted-in-6-eq0.ensures, c.new-in-6-eq0-2.ensures) at c.line-in-6-eq0.ensures)
 
-pub returns-in-13 : goal.returns-in-13
+pub returns-in-6-eq1 : goal.returns-in-6-eq1
 unfolding line_at lines_of
-returns-in-13 c = arm _ _ 13 _ c.if-i-gt2.false c.in-13.is (rw c.parted-in-13.ensures at c.close-in-13.ensures)
+returns-in-6-eq1 c = arm _ _ 6 1 _ c.in-6-eq1.is-0 c.in-6-eq1.is-1 (rw (c.parted-in-6-eq1.ensures, c.new-in-6-eq1.ensures) at c.close-in-6-eq1.ensures)
 
-pub returns-in-15 : goal.returns-in-15
+pub returns-in-7-eq0 : goal.returns-in-7-eq0
 unfolding line_at lines_of
-returns-in-15 c = arm _ _ 15 _ c.if-i-gt2.false c.in-15.is (rw (c.bare-in-15.ensures, c.one-in-15.ensures) at c.line-in-15.ensures)
+returns-in-7-eq0 c = arm _ _ 7 0 _ c.in-7-eq0.is-0 c.in-7-eq0.is-1 (rw (c.new-in-7-eq0.ensures, c.new-in-7-eq0-2.ensures) at c.line-in-7-eq0.ensures)
 
-pub returns-in-16 : goal.returns-in-16
+pub returns-in-8-eq0 : goal.returns-in-8-eq0
 unfolding line_at lines_of
-returns-in-16 c = arm _ _ 16 _ c.if-i-gt2.false c.in-16.is (rw c.bare-in-16.ensures at c.close-in-16.ensures)
+returns-in-8-eq0 c = arm _ _ 8 0 _ c.in-8-eq0.is-0 c.in-8-eq0.is-1 (rw (c.new-in-8-eq0.ensures, c.new-in-8-eq0-2.ensures) at c.line-in-8-eq0.ensures)
 
-pub returns-in-18 : goal.returns-in-18
+pub returns-in-8-eq1 : goal.returns-in-8-eq1
 unfolding line_at lines_of
-returns-in-18 c = arm _ _ 18 _ c.if-i-gt2.false c.in-18.is (rw (c.bare-in-18.ensures, c.spaced-in-18.ensures) at c.line-in-18.ensures)
+returns-in-8-eq1 c = arm _ _ 8 1 _ c.in-8-eq1.is-0 c.in-8-eq1.is-1 (rw (c.new-in-8-eq1.ensures, c.new-in-8-eq1-2.ensures) at c.line-in-8-eq1.ensures)
 
-pub returns-in-19 : goal.returns-in-19
+pub returns-in-9-eq0 : goal.returns-in-9-eq0
 unfolding line_at lines_of
-returns-in-19 c = arm _ _ 19 _ c.if-i-gt2.false c.in-19.is (rw c.parted-in-19.ensures at c.close-in-19.ensures)
+returns-in-9-eq0 c = arm _ _ 9 0 _ c.in-9-eq0.is-0 c.in-9-eq0.is-1 (rw (c.new-in-9-eq0.ensures, c.new-in-9-eq0-2.ensures) at c.line-in-9-eq0.ensures)
 
-pub returns-in-21 : goal.returns-in-21
+pub returns-in-1-eq0 : goal.returns-in-1-eq0
 unfolding line_at lines_of
-returns-in-21 c = arm _ _ 21 _ c.if-i-gt2.false c.in-21.is (rw (c.bare-in-21.ensures, c.one-in-21.ensures) at c.line-in-21.ensures)
+returns-in-1-eq0 c = starred-arm _ _ 0 _ (omega arith) (omega arith) (omega arith) (rw (c.new-in-1-eq0.ensures, c.parted-in-1-eq0.ensures, c.new-in-1-eq0-2.ensures) at c.line-in-1-eq0.ensures)
 
-pub returns-in-22 : goal.returns-in-22
+pub returns-in-1-eq1 : goal.returns-in-1-eq1
 unfolding line_at lines_of
-returns-in-22 c = arm _ _ 22 _ c.if-i-gt2.false c.in-22.is (rw (c.bare-in-22.ensures, c.one-in-22.ensures) at c.line-in-22.ensures)
+returns-in-1-eq1 c = starred-arm _ _ 1 _ (omega arith) (omega arith) (omega arith) (rw (c.parted-in-1-eq1.ensures, c.new-in-1-eq1.ensures) at c.close-in-1-eq1.ensures)
 
-pub returns-in-23 : goal.returns-in-23
+pub returns-in-7-eq2 : goal.returns-in-7-eq2
 unfolding line_at lines_of
-returns-in-23 c = arm _ _ 23 _ c.if-i-gt2.false c.in-23.is (rw c.bare-in-23.ensures at c.close-in-23.ensures)
+returns-in-7-eq2 c =
+    let e = (rw c.new-in-7-eq2.ensures at c.close-in-7-eq2.ensures) in
+    let k : (c.args.symbology ≡ 7) ⊎ ((c.args.symbology ≡ 8) ⊎ (c.args.symbology ≡ 9)) = search rules in
+    let i : c.args.i ≡ 2 = search rules in
+    elim k [ inl f ↦ arm _ _ 7 2 _ f i e | inr g ↦ elim g [ inl f ↦ arm _ _ 8 2 _ f i e | inr f ↦ arm _ _ 9 2 _ f i e ] ]
 
-pub returns-in-24 : goal.returns-in-24
+pub returns-in-7-eq1 : goal.returns-in-7-eq1
 unfolding line_at lines_of
-returns-in-24 c = arm _ _ 24 _ c.if-i-gt2.false c.in-24.is (rw (c.bare-in-24.ensures, c.one-in-24.ensures) at c.line-in-24.ensures)
-
-pub returns-in-25 : goal.returns-in-25
-unfolding line_at lines_of
-returns-in-25 c = arm _ _ 25 _ c.if-i-gt2.false c.in-25.is (rw (c.bare-in-25.ensures, c.one-in-25.ensures) at c.line-in-25.ensures)
-
-pub returns-in-26 : goal.returns-in-26
-unfolding line_at lines_of
-returns-in-26 c = arm _ _ 26 _ c.if-i-gt2.false c.in-26.is (rw c.bare-in-26.ensures at c.close-in-26.ensures)
-
-pub returns-in-27 : goal.returns-in-27
-unfolding line_at lines_of
-returns-in-27 c = arm _ _ 27 _ c.if-i-gt2.false c.in-27.is (rw (c.bare-in-27.ensures, c.one-in-27.ensures) at c.line-in-27.ensures)
-
-pub returns-in-28 : goal.returns-in-28
-unfolding line_at lines_of
-returns-in-28 c = arm _ _ 28 _ c.if-i-gt2.false c.in-28.is (rw (c.bare-in-28.ensures, c.one-in-28.ensures) at c.line-in-28.ensures)
-
-pub returns-in-29 : goal.returns-in-29
-unfolding line_at lines_of
-returns-in-29 c = arm _ _ 29 _ c.if-i-gt2.false c.in-29.is (rw c.bare-in-29.ensures at c.close-in-29.ensures)
+returns-in-7-eq1 c =
+    let e = (rw (c.new-in-7-eq1.ensures, c.new-in-7-eq1-2.ensures) at c.line-in-7-eq1.ensures) in
+    let k : (c.args.symbology ≡ 7) ⊎ (c.args.symbology ≡ 9) = search rules in
+    let i : c.args.i ≡ 1 = search rules in
+    elim k [ inl f ↦ arm _ _ 7 1 _ f i e | inr f ↦ arm _ _ 9 1 _ f i e ]
 
 pub returns-in_default : goal.returns-in_default
-returns-in_default c = none _ _ _ (search rules) c.if-i-gt2.false (search rules) (rw c.bare-in_default.ensures at c.close-in_default.ensures)
+unfolding lines_of
+returns-in_default c =
+    let e = rw c.new-in_default.ensures at c.close-in_default.ensures in
+    elim c.in_default.branch [
+      | in_default-via-in-3+in_default w ↦ none _ _ 3 _ (omega arith) (omega arith) e
+      | in_default-via-in-4+in_default w ↦ none _ _ 4 _ (omega arith) (omega arith) e
+      | in_default-via-in-5+in_default w ↦ none _ _ 5 _ (omega arith) (omega arith) e
+      | in_default-via-in-6+in_default w ↦ none _ _ 6 _ (omega arith) (omega arith) e
+      | in_default-via-in-7+in_default w ↦ none _ _ 7 _ (omega arith) (omega arith) e
+      | in_default-via-in-8+in_default w ↦ none _ _ 8 _ (omega arith) (omega arith) e
+      | in_default-via-in-9+in_default w ↦ none _ _ 9 _ (omega arith) (omega arith) e
+      | in_default-via-in_default+then-this-lt1 w ↦ none _ _ 0 _ (omega arith) (omega arith) e
+      | in_default-via-in_default+else-this-lt1+then-this-lt3+in_default-this-7 w ↦ starred-none _ _ _ (omega arith) (omega arith) (omega arith) e
+      | in_default-via-in_default+else-this-lt1+else-this-lt3 w ↦ beyond _ _ _ (omega arith) e
+    ]

@@ -1,6 +1,6 @@
 -- `codabar`: the words as they stand in the code are those of the table's rows, by computation.
 -- Assumes nothing.
-use mathlib.Core.Path.{refl}
+use Rattle.std.proofs.Common.{refl}
 use Rattle.tables.specs.Codabar.{inner_rows, letter_rows, alphabet_codabar, table41}
 use Rattle.tables.specs.Alphabet.{rows_of}
 use Rattle.shapes.specs.Sets.{sets_codabar}

@@ -1,6 +1,6 @@
 -- `code39`: the words as they stand in the code are those of the table's rows, by computation.
 -- Assumes nothing.
-use mathlib.Core.Path.{refl}
+use Rattle.std.proofs.Common.{refl}
 use Rattle.tables.specs.Code39.{rows39, alphabet39, chars39, table42}
 use Rattle.tables.specs.Alphabet.{rows_of}
 use Rattle.shapes.specs.Sets.{sets39}

@@ -1,6 +1,6 @@
 -- `industrial`: the words as they stand in the code are those of the table's rows, by computation.
 -- Assumes nothing.
-use mathlib.Core.Path.{refl}
+use Rattle.std.proofs.Common.{refl}
 use Rattle.tables.specs.TwoOfFive.{industrial_rows, digit_rows, alphabet_digits, table44}
 use Rattle.tables.specs.Alphabet.{rows_of}
 use Rattle.shapes.specs.Sets.{sets_industrial}

@@ -1,27 +1,26 @@
--- Each refusal is one law of Judging, by what the tests before it said.
+-- `judge_count`: each return is one law of Verdicts, by what the tests before it said.
 -- Assumes nothing.
-use mathlib.Core.Path.{ap}
-use mathlib.Core.Bool.{not}
-use Rattle.symbologies.proofs.Verdicts.{not_known, not-offered, not-held, not-even, all-passed}
+use Rattle.std.proofs.Common.{refl}
+use Rattle.std.proofs.lemmas.Result.{err_from_is_err_and}
+use Rattle.symbologies.proofs.Verdicts.{offered-by, no-count, not-held, not-even, is-drawable}
+use Rattle.symbologies.proofs.judging.judge_count.Goals.{then-not-takes-via-then-not-takes, then-not-takes-via-else-not-takes+then-is_odd}
 use Rattle.symbologies.proofs.judging.judge_count.Goals as goal
 
-pub returns-then-not-limits : goal.returns-then-not-limits
-returns-then-not-limits c = not_known _ _ _ _ c.limits_of-limits.ensures c.if-not-limits.true
-
-pub returns-then-not-offers : goal.returns-then-not-offers
-returns-then-not-offers c = not-offered _ _ _ _ c.limits_of-limits.ensures c.if-not-limits.false _ c.offers.ensures (ap not c.if-not-offers.true)
+pub returns-in_err-limits : goal.returns-in_err-limits
+returns-in_err-limits c =
+    let p = err_from_is_err_and c.from_residual.result c.from_residual.ensures.1 in
+    rw (p.1, p.2) (no-count _ _ _ c.limits_for.ensures _ _ c.in_err-limits.was)
 
 pub returns-then-not-takes : goal.returns-then-not-takes
 returns-then-not-takes c =
-    not-held _ _ _ _ c.limits_of-limits.ensures c.if-not-limits.false _ c.offers.ensures (ap not c.if-not-offers.false) _ c.data_count.ensures _
-    c.takes.ensures (ap not c.if-not-takes.true)
-
-pub returns-then-is_odd : goal.returns-then-is_odd
-returns-then-is_odd c =
-    not-even _ _ _ _ c.limits_of-limits.ensures c.if-not-limits.false _ c.offers.ensures (ap not c.if-not-offers.false) _ c.data_count.ensures _
-    c.takes.ensures (ap not c.if-not-takes.false) _ c.is_odd.ensures c.if-is_odd.true
+    let o = offered-by _ _ _ c.limits_for.ensures _ c.in_ok-limits.was in
+    elim c.then-not-takes.branch [
+      | then-not-takes-via-then-not-takes w ↦ not-held _ _ _ _ o _ c.data_count.ensures _ c.takes.ensures _ refl w.if-not-takes.true
+      | then-not-takes-via-else-not-takes+then-is_odd w ↦
+          not-even _ _ _ _ o _ c.data_count.ensures _ c.takes.ensures _ w.is_odd.ensures w.if-not-takes.false w.if-is_odd.true
+    ]
 
 pub returns : goal.returns
 returns c =
-    all-passed _ _ _ _ c.limits_of-limits.ensures c.if-not-limits.false _ c.offers.ensures (ap not c.if-not-offers.false) _ c.data_count.ensures _
-    c.takes.ensures (ap not c.if-not-takes.false) _ c.is_odd.ensures c.if-is_odd.false
+    is-drawable _ _ _ _ (offered-by _ _ _ c.limits_for.ensures _ c.in_ok-limits.was) _ c.data_count.ensures _ c.takes.ensures _ c.is_odd.ensures
+    c.if-not-takes.false c.if-is_odd.false

@@ -1,31 +1,25 @@
 -- `judge_field`: each return is one law of Verdicts, by what the tests before it said.
 -- Assumes nothing.
-use mathlib.Core.Path.{ap}
-use mathlib.Core.Bool.{not}
-use Rattle.symbologies.proofs.Verdicts.{no-symbology, no_mode, bad-count, short-field, not-zero, all-zeros}
+use Rattle.std.proofs.lemmas.Result.{err_from_is_err_and}
+use Rattle.symbologies.proofs.Fields.{some-nonzero, all-zero}
+use Rattle.symbologies.proofs.Verdicts.{offered-by, no-field, bad-count, not-zero, all-zeros}
 use Rattle.symbologies.proofs.judging.judge_field.Goals as goal
 
-pub returns-then-not-limits : goal.returns-then-not-limits
-returns-then-not-limits c = no-symbology _ _ _ c.limits_of-limits.ensures _ _ c.if-not-limits.true
-
-pub returns-then-not-offers : goal.returns-then-not-offers
-returns-then-not-offers c =
-    no_mode _ _ _ c.limits_of-limits.ensures _ _ c.if-not-limits.false _ c.offers.ensures (ap not c.if-not-offers.true)
+pub returns-in_err-limits : goal.returns-in_err-limits
+returns-in_err-limits c =
+    let p = err_from_is_err_and c.from_residual.result c.from_residual.ensures.1 in
+    rw (p.1, p.2) (no-field _ _ _ c.limits_for.ensures _ _ _ c.in_err-limits.was)
 
 pub returns-then-not-takes : goal.returns-then-not-takes
 returns-then-not-takes c =
-    bad-count _ _ _ c.limits_of-limits.ensures _ _ c.if-not-limits.false _ c.offers.ensures (ap not c.if-not-offers.false) _ c.takes.ensures (ap not c.if-not-takes.true)
+    bad-count _ _ _ (offered-by _ _ _ c.limits_for.ensures _ c.in_ok-limits.was) _ _ _ c.takes.ensures c.then-not-takes.either
 
-pub returns-then-field-count : goal.returns-then-field-count
-returns-then-field-count c =
-    short-field _ _ _ c.limits_of-limits.ensures _ _ c.if-not-limits.false _ c.offers.ensures (ap not c.if-not-offers.false) _ c.takes.ensures (ap not c.if-not-takes.false) c.if-field-count.true
+pub returns-in-Some : goal.returns-in-Some
+returns-in-Some c =
+    not-zero _ _ _ (offered-by _ _ _ c.limits_for.ensures _ c.in_ok-limits.was) _ _ _ c.takes.ensures c.if-not-takes.false c.if-field-count.false _
+    (some-nonzero c.args.count c.args.field.now _ c.first_nonzero.ensures _ c.in-Some.is)
 
-pub returns-then-at-field : goal.returns-then-at-field
-returns-then-at-field c =
-    not-zero _ _ _ c.limits_of-limits.ensures _ _ c.if-not-limits.false _ c.offers.ensures (ap not c.if-not-offers.false) _ c.takes.ensures (ap not c.if-not-takes.false) c.if-field-count.false _
-    c.first_nonzero-at.ensures c.if-at-field.true
-
-pub returns : goal.returns
-returns c =
-    all-zeros _ _ _ c.limits_of-limits.ensures _ _ c.if-not-limits.false _ c.offers.ensures (ap not c.if-not-offers.false) _ c.takes.ensures (ap not c.if-not-takes.false) c.if-field-count.false _
-    c.first_nonzero-at.ensures c.if-at-field.false
+pub returns-in-None : goal.returns-in-None
+returns-in-None c =
+    all-zeros _ _ _ (offered-by _ _ _ c.limits_for.ensures _ c.in_ok-limits.was) _ _ _ c.takes.ensures c.if-not-takes.false c.if-field-count.false
+    (all-zero c.args.count c.args.field.now _ c.first_nonzero.ensures c.in-None.is)

@@ -1,7 +1,7 @@
 -- `value` gives table 4.1: each arm of the match is one test over the bytes that it takes.
-use Rattle.std.proofs.Common.{ℕ, List, [], ◌∷◌, ◌+◌, ◌-◌, refl, arith, rules}
-use Rattle.laws.specs.Search.{index_in}
-use Rattle.laws.proofs.Arms.{agree}
+use Rattle.std.proofs.Common.{Some, None, ℕ, List, [], ◌∷◌, ◌+◌, ◌-◌, refl, arith, rules}
+use Rattle.laws.specs.Search.{below, index_in}
+use Rattle.laws.proofs.Arms.{same-there}
 use Rattle.tables.specs.Alphabet.{value_of}
 use Rattle.tables.specs.Codabar.{alphabet_codabar, table41}
 use Rattle.tables.proofs.codabar.value.Goals as goal
@@ -36,20 +36,20 @@ returns-in-43 c = rw c.in-43.is
 
 pub returns-in-48-to-57 : goal.returns-in-48-to-57
 unfolding value_of alphabet_codabar table41 index_in
-returns-in-48-to-57 c = agree keys 45 13 (λ b. b - 48) (value_of alphabet_codabar) refl _ (omega arith) (omega arith) (search rules)
+returns-in-48-to-57 c = same-there keys 45 13 (λ b. Some (b - 48)) (λ b. below 20 (value_of alphabet_codabar b)) refl _ (omega arith) (omega arith) (search rules)
 
 pub returns-in-65-to-68 : goal.returns-in-65-to-68
 unfolding value_of alphabet_codabar table41 index_in
-returns-in-65-to-68 c = agree [] 65 4 (λ b. b - 65 + 16) (value_of alphabet_codabar) refl _ (omega arith) (omega arith) tt
+returns-in-65-to-68 c = same-there [] 65 4 (λ b. Some (b - 65 + 16)) (λ b. below 20 (value_of alphabet_codabar b)) refl _ (omega arith) (omega arith) tt
 
 pub returns-in_default : goal.returns-in_default
 unfolding value_of alphabet_codabar table41 index_in
-returns-in_default c = agree keys 0 45 (λ b. 20) (value_of alphabet_codabar) refl _ (omega arith) (omega arith) (search rules)
+returns-in_default c = same-there keys 0 45 (λ b. None) (λ b. below 20 (value_of alphabet_codabar b)) refl _ (omega arith) (omega arith) (search rules)
 
 pub returns-in_default-2 : goal.returns-in_default-2
 unfolding value_of alphabet_codabar table41 index_in
-returns-in_default-2 c = agree keys 58 7 (λ b. 20) (value_of alphabet_codabar) refl _ (omega arith) (omega arith) (search rules)
+returns-in_default-2 c = same-there keys 58 7 (λ b. None) (λ b. below 20 (value_of alphabet_codabar b)) refl _ (omega arith) (omega arith) (search rules)
 
 pub returns-in_default-3 : goal.returns-in_default-3
 unfolding value_of alphabet_codabar table41 index_in
-returns-in_default-3 c = agree [] 69 187 (λ b. 20) (value_of alphabet_codabar) refl _ (omega arith) (omega arith) tt
+returns-in_default-3 c = same-there [] 69 187 (λ b. None) (λ b. below 20 (value_of alphabet_codabar b)) refl _ (omega arith) (omega arith) tt

@@ -1,14 +1,10 @@
--- `byte` gives the table's characters: the constant computes to the definition, and past both there is 0.
-use Rattle.std.proofs.Common.{refl, sym, arith}
-use lib.ListN.{get_or-eq_default}
+-- `byte` gives the table's characters: the constant computes to the definition.
+use Rattle.std.proofs.Common.{◌∙◌}
+use Rattle.laws.proofs.Search.{some-get}
 use Rattle.tables.specs.Alphabet.{byte_of}
 use Rattle.tables.specs.Code39.{alphabet39, chars39}
 use Rattle.tables.proofs.code39.byte.Goals as goal
 
-pub returns-then-value-lt43 : goal.returns-then-value-lt43
+pub returns : goal.returns
 unfolding byte_of alphabet39 chars39
-returns-then-value-lt43 c = refl
-
-pub returns-else-value-lt43 : goal.returns-else-value-lt43
-unfolding byte_of alphabet39 chars39
-returns-else-value-lt43 c = sym (get_or-eq_default alphabet39.chars 0 {n = c.args.value} (omega arith))
+returns c = c.entry.ensures ∙ some-get alphabet39.chars c.args.value

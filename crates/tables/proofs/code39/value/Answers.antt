@@ -1,7 +1,7 @@
 -- `value` gives table 4.3: each arm of the match is one test over the bytes that it takes.
-use Rattle.std.proofs.Common.{ℕ, List, [], ◌∷◌, ◌+◌, ◌-◌, refl, arith, rules}
-use Rattle.laws.specs.Search.{index_in}
-use Rattle.laws.proofs.Arms.{agree}
+use Rattle.std.proofs.Common.{Some, None, ℕ, List, [], ◌∷◌, ◌+◌, ◌-◌, refl, arith, rules}
+use Rattle.laws.specs.Search.{below, index_in}
+use Rattle.laws.proofs.Arms.{same-there}
 use Rattle.tables.specs.Alphabet.{value_of}
 use Rattle.tables.specs.Code39.{alphabet39, chars39}
 use Rattle.tables.proofs.code39.value.Goals as goal
@@ -40,20 +40,20 @@ returns-in-37 c = rw c.in-37.is
 
 pub returns-in-48-to-57 : goal.returns-in-48-to-57
 unfolding value_of alphabet39 chars39 index_in
-returns-in-48-to-57 c = agree keys 45 13 (λ b. b - 48) (value_of alphabet39) refl _ (omega arith) (omega arith) (search rules)
+returns-in-48-to-57 c = same-there keys 45 13 (λ b. Some (b - 48)) (λ b. below 43 (value_of alphabet39 b)) refl _ (omega arith) (omega arith) (search rules)
 
 pub returns-in-65-to-90 : goal.returns-in-65-to-90
 unfolding value_of alphabet39 chars39 index_in
-returns-in-65-to-90 c = agree [] 65 26 (λ b. b - 65 + 10) (value_of alphabet39) refl _ (omega arith) (omega arith) tt
+returns-in-65-to-90 c = same-there [] 65 26 (λ b. Some (b - 65 + 10)) (λ b. below 43 (value_of alphabet39 b)) refl _ (omega arith) (omega arith) tt
 
 pub returns-in_default : goal.returns-in_default
 unfolding value_of alphabet39 chars39 index_in
-returns-in_default c = agree keys 0 45 (λ b. 43) (value_of alphabet39) refl _ (omega arith) (omega arith) (search rules)
+returns-in_default c = same-there keys 0 45 (λ b. None) (λ b. below 43 (value_of alphabet39 b)) refl _ (omega arith) (omega arith) (search rules)
 
 pub returns-in_default-2 : goal.returns-in_default-2
 unfolding value_of alphabet39 chars39 index_in
-returns-in_default-2 c = agree [] 58 7 (λ b. 43) (value_of alphabet39) refl _ (omega arith) (omega arith) tt
+returns-in_default-2 c = same-there [] 58 7 (λ b. None) (λ b. below 43 (value_of alphabet39 b)) refl _ (omega arith) (omega arith) tt
 
 pub returns-in_default-3 : goal.returns-in_default-3
 unfolding value_of alphabet39 chars39 index_in
-returns-in_default-3 c = agree [] 91 165 (λ b. 43) (value_of alphabet39) refl _ (omega arith) (omega arith) tt
+returns-in_default-3 c = same-there [] 91 165 (λ b. None) (λ b. below 43 (value_of alphabet39 b)) refl _ (omega arith) (omega arith) tt

@@ -1,13 +1,9 @@
--- `parities_of` gives table 5.2's parities: the constant computes to the definition, and past both there is 0.
-use Rattle.std.proofs.Common.{refl, sym, arith}
-use lib.ListN.{get_or-eq_default}
+-- `parities_of` gives table 5.2's parities: the constant computes to the definition.
+use Rattle.std.proofs.Common.{◌∙◌}
+use Rattle.laws.proofs.Search.{some-get}
 use Rattle.tables.specs.Ean.{parities_of, parities, table52}
 use Rattle.tables.proofs.ean.parities_of.Goals as goal
 
-pub returns-then-first-lt10 : goal.returns-then-first-lt10
+pub returns : goal.returns
 unfolding parities_of parities table52
-returns-then-first-lt10 c = refl
-
-pub returns-else-first-lt10 : goal.returns-else-first-lt10
-unfolding parities_of parities table52
-returns-else-first-lt10 c = sym (get_or-eq_default parities 0 {n = c.args.first} (omega arith))
+returns c = c.entry.ensures ∙ some-get parities c.args.first

@@ -1,8 +1,6 @@
 -- `put_mark`: nothing, or the parting space and the mark's row.
 -- Assumes nothing.
-use mathlib.Core.Path.{sym}
-use native.Mathlib.Omega.{arith}
-use lib.ListN.{length-append}
+use Rattle.std.proofs.Common.{sym, arith, length-append}
 use Rattle.laws.proofs.Writing.{then, same_text}
 use Rattle.shapes.proofs.Words.{row-length}
 use Rattle.units.proofs.Marks.{mark-some, mark-sized}

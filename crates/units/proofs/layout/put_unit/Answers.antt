@@ -1,8 +1,6 @@
 -- `put_unit`: the parting space, and what the unit shows.
 -- Assumes nothing.
-use mathlib.Core.Path.{sym}
-use native.Mathlib.Omega.{arith}
-use lib.ListN.{length-append}
+use Rattle.std.proofs.Common.{sym, arith, length-append}
 use Rattle.laws.proofs.Writing.{then, same_text}
 use Rattle.units.proofs.Marks.{unit-shows, shown-length}
 use Rattle.units.proofs.layout.put_unit.Goals as goal

@@ -1,6 +1,6 @@
--- `number` goes up to the line's end.
-use Rattle.std.proofs.Common.{◌-◌, length}
+-- `number`: no number above 999 is kept.
+use Rattle.std.proofs.Common.{◌≤◌}
 use Rattle.vectors.proofs.part.number.Given as goal
 
-abbrev pub decreases-loop-i : goal.decreases-loop-i
-decreases-loop-i l = length l.line - l.i
+abbrev pub invariant-loop-byte : goal.invariant-loop-byte
+invariant-loop-byte l = l.number ≤ 999
