@@ -31,6 +31,7 @@ const W: u8 = 32;
 const Z: u8 = 35;
 
 // The characters that a byte draws, range by range.
+#[tactic(auto, unfolding(symbologies::specs::Coders::full_coder, tables::specs::Alphabet::value_of, tables::specs::Code39::alphabet39, tables::specs::Code39::chars39, laws::specs::Search::index_in, tables::specs::FullAscii::drawing, tables::specs::FullAscii::ranges))]
 pub fn drawn(byte: u8) -> Piece
     ensures { piece_list result ≡ full_coder.drawn edge byte }
 {

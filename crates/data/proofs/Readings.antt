@@ -94,7 +94,7 @@ module _ (s m : ℕ) (cs : List ℕ) (p : (m < 3) × ((added m < length cs) × (
         go (Err at) h q = let z : ◌≡◌ {A = ℕ} 0 1 = cc in absurd (omega arith)
 
   module _ (k : Measured) (w : MeasuredAll y m sp k) where
-    read-well : unspelled y m cs ≡ found w.text
+    pub read-well : unspelled y m cs ≡ found w.text
     read-well = rw chars-are w.is
 
     pub plain-data : m ≡ 0 → read_data y m cs ≡ gives w.text

@@ -1,7 +1,7 @@
 -- How lists stand in the structs of src/.
 --
 --   Front, front_of   the item that characters begin with: its byte, 256 where none draws it, and its width
---   held, item_of     the same as the code holds it, if a byte draws it; paired_at, whether it is a pair
+--   held, item_of     the same as the code holds it, if a byte draws it; width_of, its width alone; paired_at, whether it is a pair
 --   MeasuredAs       what characters spell, as the code holds it, or where they stop; Written, they spell data that fit
 --   read_data         the data of a row whose count is given, behind 12, 7
 --   data_of_row        a row's data: of its first `len` places

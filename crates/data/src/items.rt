@@ -47,7 +47,7 @@ fn item_of(symbology: u8, mode: u8, start: bool, codes: &[u8]) -> Option<Item>
 }
 
 // How many characters that item has, if a byte draws it.
-// Stays beside `item_of`: measuring asks for no byte, and `coders::is_alone`, whose theorem stays, answers without one.
+// Stays beside `item_of`: `coders::is_alone`, whose theorem stays, is asked here, and every public function has a caller.
 fn width_of(symbology: u8, mode: u8, start: bool, codes: &[u8]) -> Option<usize>
     requires { 0 < length codes.now }
     ensures { result ≡ width_of ((symbology_of symbology).coder mode) start codes.now }

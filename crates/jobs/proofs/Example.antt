@@ -3,7 +3,7 @@
 --   example-prints   the two records print the three lines
 --
 -- Assumes nothing.
-use mathlib.Core.Path.{◌≡◌, refl}
+use Rattle.std.proofs.Common.{◌≡◌, refl}
 use Rattle.laws.specs.Search.{index_in}
 use Rattle.tables.specs.Alphabet.{value_of, byte_of, rows_of}
 use Rattle.tables.specs.TwoOfFive.{alphabet_digits, table44, digit_rows, interleaved_rows, interleaved_start, interleaved_stop}

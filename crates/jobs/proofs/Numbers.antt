@@ -3,14 +3,7 @@
 --   no_one    a byte that is no symbology is no kind either, so that no record's answer is 1
 --
 -- Assumes nothing.
-use mathlib.Core.Path.{◌≡◌, refl, sym}
-use mathlib.Core.Logic.{◌≢◌}
-use mathlib.Core.Bool.{Bool, true, false, not}
-use mathlib.Core.List.{List, [], ◌∷◌}
-use Prim.Native.Nat.{ℕ}
-use native.Mathlib.Omega.{arith}
-use lib.Dec.{leb}
-use lib.ListN.{length, take, drop, replicate}
+use Rattle.std.proofs.Common.{◌≡◌, refl, sym, ◌≢◌, Bool, true, false, not, List, [], ◌∷◌, ℕ, arith, leb, length, take, drop, replicate}
 use Rattle.laws.specs.Search.{pick}
 use Rattle.laws.proofs.Finite.{upto-at}
 use Rattle.words.specs.Said.{said_of}

@@ -5,23 +5,16 @@
 --                left begins; `within`, no more is taken than is held
 --   halts        so it is for every call
 --   goes_on, stops-there     the text of a call, before bytes that are still to come
---   left-over    what is left where more is wanted
+--   left_over    what is left where more is wanted
 --   full-takes   a call with room for a line takes a record before it is full
 --   run-held     what the loop prints from held bytes on
 --   run-pieces   what it prints for an input in pieces
 --   loop-ends    the loop ends
 --
 -- Assumes nothing.
-use mathlib.Core.Path.{◌≡◌, refl, sym, ap, ◌∙◌}
-use mathlib.Core.Bool.{Bool, true, false}
-use mathlib.Core.Logic.{◌⊎◌, inl, inr}
-use mathlib.Core.List.{List, [], ◌∷◌, ◌++◌, append-nil, append_assoc}
-use Prim.Native.Nat.{ℕ, zero, suc, ◌+◌, ◌-◌, ◌<◌, ◌≤◌}
-use native.Mathlib.Omega.{arith}
-use lib.Dec.{leb, ltb}
-use lib.ListN.{length, get_or, take, drop, length-append, length-drop, get_or-append}
-use lib.Seq.{drop-drop, drop-append-le, take-append-le}
-use borrow.Author.Tests.{leb-false, le-leb, le-ltb}
+use Rattle.std.proofs.Common.{◌≡◌, refl, sym, ap, ◌∙◌, Bool, true, false, ◌⊎◌, inl, inr, List, [], ◌∷◌, ◌++◌, append-nil, append_assoc, ℕ, zero, suc, ◌+◌, ◌-◌, ◌<◌, ◌≤◌, arith, leb, ltb, length, get_or, take, drop, length-append, length-drop, drop-drop, leb-false, le-leb, le-ltb}
+use lib.ListN.{get_or-append}
+use lib.Seq.{drop-append-le, take-append-le}
 use Rattle.laws.specs.Search.{pick}
 use Rattle.lines.specs.Sizes.{longest_line}
 use Rattle.lines.specs.Line.{stop_line}

@@ -5,7 +5,7 @@ ghost use Rattle.jobs.specs.Kinds.{symbology_of};
 ghost use Rattle.jobs.specs.Found.{known_body};
 
 // The symbology that a kind draws.
-// Stays a function, although the two are one number: that a kind is a symbology is said here alone.
+// Stays a function: `symbology_of` (specs/Kinds.antt) is a definition of its own, since a kind with a longer field will part the two numbers.
 pub fn symbology_of(kind: u8) -> u8
     ensures { result ≡ symbology_of kind }
 {

@@ -8,6 +8,7 @@ use super::kinds;
 use lines::sizes::LONGEST_LINE;
 
 // Why a call took no further record.
+// Stays an enum of three: none of them is "no reason", and none holds a value.
 #[derive(Clone, Copy)]
 pub enum Ended {
     // What is left is nothing, or the beginning of a record: more bytes are wanted, or the input has ended.

@@ -1,4 +1,4 @@
-// Theory that names no symbology, and the one search of a table that all tables share.
+// Theory that names no symbology, and a search of a table.
 //
 //   specs/    what a search, a strip of units, its reading and a weighted sum are
 //   proofs/   their laws, each proved once and cited by the crates above

@@ -5,13 +5,8 @@
 --   no-eight      no record's answer is 8
 --
 -- Assumes nothing.
-use mathlib.Core.Path.{◌≡◌}
-use mathlib.Core.Logic.{◌≢◌}
-use mathlib.Core.List.{List}
-use Prim.Native.Nat.{ℕ, ◌<◌, ◌≤◌}
-use native.Mathlib.Omega.{arith}
-use lib.ListN.{length, take, replicate, length-replicate}
-use borrow.Author.Tests.{ltb-true}
+use Rattle.std.proofs.Common.{◌≡◌, ◌≢◌, List, ℕ, ◌<◌, ◌≤◌, arith, length, take, replicate, ltb-true}
+use lib.ListN.{length-replicate}
 use Rattle.words.specs.Said.{said_of}
 use Rattle.words.specs.Order.{gives, turned}
 use Rattle.words.proofs.Order.{none-on, Reached, first-reached, hit}

@@ -6,13 +6,7 @@
 --   narrow-room    so it is for every record's room
 --
 -- Assumes nothing.
-use mathlib.Core.Path.{◌≡◌, refl}
-use mathlib.Core.Bool.{Bool, true, ◌&&◌}
-use mathlib.Core.List.{List, [], ◌∷◌, ◌++◌}
-use Prim.Native.Nat.{ℕ, zero, suc, ◌≤◌}
-use lib.Dec.{leb}
-use lib.ListN.{length, get_or, take, drop, replicate}
-use borrow.Author.Tests.{leb-true}
+use Rattle.std.proofs.Common.{◌≡◌, refl, Bool, true, ◌&&◌, List, [], ◌∷◌, ◌++◌, ℕ, zero, suc, ◌≤◌, leb, length, get_or, take, drop, replicate, leb-true}
 use Rattle.laws.specs.Units.{Kind, fixed, free, strip}
 use Rattle.laws.specs.Shapes.{many}
 use Rattle.laws.proofs.Finite.{both_left, both_right, both_true}

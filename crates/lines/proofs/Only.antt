@@ -1,8 +1,6 @@
 -- One answer for each input of this crate's public functions, and one content of the lent buffer.
 -- Assumes nothing.
-use mathlib.Core.Path.{◌≡◌, ap, ◌∙◌}
-use mathlib.Core.Bool.{Bool}
-use Prim.Native.Nat.{ℕ}
+use Rattle.std.proofs.Common.{◌≡◌, ap, ◌∙◌, Bool, ℕ}
 use Rattle.laws.specs.One.{One, OneBuffer}
 use Rattle.laws.proofs.Only.{only}
 use Rattle.lines.specs.declared.Written.{Written}

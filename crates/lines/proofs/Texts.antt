@@ -1,5 +1,6 @@
 -- The lines, put together from what each call writes.
 --
+--   joined         two texts, one behind the other; `reworded`, a text in other words
 --   said-text      five numbers, each with a blank behind it
 --   drawn-shown, refused-shown    the widths of a strip, or -, and the newline
 --   line-text      both are the line of a record
@@ -22,11 +23,19 @@ use Rattle.symbologies.specs.Sizes.{longest}
 use Rattle.lines.specs.Sizes.{longest_line}
 use Rattle.laws.specs.Writing.{Put, front}
 use Rattle.lines.specs.Text.{decimal, widths, spaced, roomy}
+use Rattle.lines.specs.declared.text.Line.{Line}
+use Rattle.lines.specs.Wrote.{Wrote}
 use Rattle.lines.specs.Line.{call_of, said_for, is_drawn, shown, line_said, line_of, end_line, stop_line}
 use Rattle.lines.proofs.Digits.{few}
 use Rattle.lines.proofs.Narrow.{narrow-room}
 use Rattle.lines.proofs.Fits.{drawn-room}
 use Rattle.laws.proofs.Writing.{then, same_text, at_front}
+
+pub joined : {a b c : Line} {t u : List ℕ} → Wrote a t b → Wrote b u c → Wrote a (t ++ u) c
+joined x y = record { same = y.same ∙ x.same; put = then x.put y.put }
+
+pub reworded : {a b : Line} {t u : List ℕ} → t ≡ u → Wrote a t b → Wrote a u b
+reworded e x = rw e at x
 
 -- ---- the line of a record
 
@@ -34,13 +43,13 @@ pub said-text : (a b c d e : ℕ) → decimal a ++ (32 ∷ []) ++ (decimal b ++ 
     ≡ spaced (a ∷ b ∷ c ∷ d ∷ e ∷ [])
 said-text a b c d e = simp append_assoc
 
-pub drawn-shown : {out q s : List ℕ} {at n m : ℕ} (said : Said) (room : List ℕ) → said.number ≡ 0 → Put out at (widths (take said.count room)) q n
-    → Put q n (10 ∷ []) s m → Put out at (shown said room ++ (10 ∷ [])) s m
-drawn-shown said room z p b = rw (eq-eqb said.number 0 z) (then p b)
+pub drawn-shown : {a b c : Line} (said : Said) (room : List ℕ) → said.number ≡ 0 → Wrote a (widths (take said.count room)) b
+    → Wrote b (10 ∷ []) c → Wrote a (shown said room ++ (10 ∷ [])) c
+drawn-shown said room z x y = rw (eq-eqb said.number 0 z) (joined x y)
 
-pub refused-shown : {out q s : List ℕ} {at n m : ℕ} (said : Said) (room : List ℕ) → (said.number ≡ 0 → ⊥) → Put out at (45 ∷ []) q n
-    → Put q n (10 ∷ []) s m → Put out at (shown said room ++ (10 ∷ [])) s m
-refused-shown said room z p b = rw (ne_eqb said.number 0 z) (then p b)
+pub refused-shown : {a b c : Line} (said : Said) (room : List ℕ) → (said.number ≡ 0 → ⊥) → Wrote a (45 ∷ []) b
+    → Wrote b (10 ∷ []) c → Wrote a (shown said room ++ (10 ∷ [])) c
+refused-shown said room z x y = rw (ne_eqb said.number 0 z) (joined x y)
 
 line-text : (number : ℕ) (said : Said) (room : List ℕ)
     → spaced (number ∷ said.number ∷ said.place ∷ said.count ∷ said.total ∷ []) ++ (shown said room ++ (10 ∷ [])) ≡ line_said number said room
@@ -75,23 +84,23 @@ module _ (number symbology mode count : ℕ) (field : List ℕ) (answer : Answer
   pub room-holds : (said.number ≡ 0 → said.count ≤ longest) × ((i : ℕ) → get_or room i 0 ≤ 4)
   room-holds = (λ z. rw said-is (drawn-room symbology mode count field (rw said-is at z)), λ i. rw room-is (narrow-room symbology mode count field i))
 
-  pub record-put : {out p q s : List ℕ} {at n m : ℕ} → Put out at (spaced (number ∷ said.number ∷ said.place ∷ said.count ∷ said.total ∷ [])) p n
-      → Put p n (shown said room ++ (10 ∷ [])) q m → s ≡ q
-      → Put out at (line_of number symbology mode count field) s m × (eqb said.number 0 ≡ is_drawn symbology mode count field)
+  pub record-put : {b c d : Line} {s : List ℕ} → Wrote b (spaced (number ∷ said.number ∷ said.place ∷ said.count ∷ said.total ∷ [])) c
+      → Wrote c (shown said room ++ (10 ∷ [])) d → s ≡ d.out.now
+      → Put b.out.now b.at (line_of number symbology mode count field) s d.at × (eqb said.number 0 ≡ is_drawn symbology mode count field)
   unfolding line_of
   record-put x y e =
-      (rw e (same_text (line-text number said room ∙ rw (said-is, room-is)) (then x y)), ap (λ (z : Said). eqb z.number 0) said-is)
+      (rw e (same_text (line-text number said room ∙ rw (said-is, room-is)) (joined x y).put), ap (λ (z : Said). eqb z.number 0) said-is)
 
 -- ---- the last lines
 
-pub end-put : {out p q s : List ℕ} {k n m : ℕ} (records drawn : ℕ) → Put out 0 (text "end ") p k → Put p k (decimal records ++ (32 ∷ [])) q n → Put q n (decimal drawn ++ (10 ∷ [])) s m
-    → Put out 0 (end_line records drawn) s m
+pub end-put : {a b c d : Line} (records drawn : ℕ) → Wrote a (text "end ") b → Wrote b (decimal records ++ (32 ∷ [])) c → Wrote c (decimal drawn ++ (10 ∷ [])) d
+    → Put a.out.now a.at (end_line records drawn) d.out.now d.at
 unfolding end_line
-end-put records drawn a b c = same_text (simp append_assoc) (then (then a b) c)
+end-put records drawn x y z = same_text (simp append_assoc) (joined (joined x y) z).put
 
-pub stop-put : {out p q : List ℕ} {k n : ℕ} (records : ℕ) → Put out 0 (text "stop ") p k → Put p k (decimal records ++ (10 ∷ [])) q n → Put out 0 (stop_line records) q n
+pub stop-put : {a b c : Line} (records : ℕ) → Wrote a (text "stop ") b → Wrote b (decimal records ++ (10 ∷ [])) c → Put a.out.now a.at (stop_line records) c.out.now c.at
 unfolding stop_line
-stop-put records a b = then a b
+stop-put records x y = (joined x y).put
 
 -- ---- rooms
 

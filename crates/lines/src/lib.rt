@@ -35,7 +35,6 @@ pub struct Written {
 // Record number, answer, place, elements and modules, each with a blank behind it.
 fn put_said(number: u64, said: Said, line: &mut Line<'_>)
     requires { line.old.at + 105 ≤ length line.old.out.now }
-    ensures same_buffer { line.new.out.ghost_name ≡ line.old.out.ghost_name }
     ensures put { Wrote line.old (spaced (number ∷ said.number ∷ said.place ∷ said.count ∷ said.total ∷ [])) line.new }
     ensures upper_bound { line.new.at ≤ line.old.at + 105 }
 {
@@ -52,8 +51,7 @@ fn put_strip(said: Said, room: &[u8], line: &mut Line<'_>)
     requires longest_in_bounds { (line.old.at + (longest + 1) ≤ length line.old.out.now) × (length room.now ≡ longest) }
     requires count_le_longest { said.number ≡ 0 → said.count ≤ longest }
     requires by_index { (i : ℕ) → get_or room.now i 0 ≤ 4 }
-    ensures same_buffer { line.new.out.ghost_name ≡ line.old.out.ghost_name }
-    ensures put { Wrote line.old (shown said room.now ++ (10 ∷ [])) line.new }
+    ensures { Wrote line.old (shown said room.now ++ (10 ∷ [])) line.new }
 {
     if said.number == 0 {
         line.widths(&room[..said.count]);

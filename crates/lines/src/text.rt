@@ -13,8 +13,7 @@ pub struct Line<'a> {
 impl Line<'_> {
     pub fn byte(&mut self, byte: u8)
         requires { self.old.at < length self.old.out.now }
-        ensures same_buffer { self.new.out.ghost_name ≡ self.old.out.ghost_name }
-        ensures put { Wrote self.old (byte ∷ []) self.new }
+        ensures { Wrote self.old (byte ∷ []) self.new }
     {
         self.out[self.at] = byte;
         self.at += 1;
@@ -22,8 +21,7 @@ impl Line<'_> {
 
     pub fn word(&mut self, word: &[u8])
         requires { self.old.at + length word.now ≤ length self.old.out.now }
-        ensures same_buffer { self.new.out.ghost_name ≡ self.old.out.ghost_name }
-        ensures put { Wrote self.old word.now self.new }
+        ensures { Wrote self.old word.now self.new }
     {
         let behind = self.at + word.len();
         self.out[self.at..behind].copy_from_slice(word);
@@ -33,7 +31,6 @@ impl Line<'_> {
     // A number, and the blank or the newline behind it.
     pub fn number(&mut self, n: u64, end: u8)
         requires { self.old.at + 21 ≤ length self.old.out.now }
-        ensures same_buffer { self.new.out.ghost_name ≡ self.old.out.ghost_name }
         ensures put { Wrote self.old (decimal n ++ (end ∷ [])) self.new }
         ensures upper_bound { self.new.at ≤ self.old.at + 21 }
     {
@@ -43,7 +40,6 @@ impl Line<'_> {
 
     fn digits(&mut self, n: u64)
         requires { self.old.at + 20 ≤ length self.old.out.now }
-        ensures same_buffer { self.new.out.ghost_name ≡ self.old.out.ghost_name }
         ensures put { Wrote self.old (decimal n) self.new }
         ensures upper_bound { self.new.at ≤ self.old.at + 20 }
     {
@@ -56,8 +52,7 @@ impl Line<'_> {
     pub fn widths(&mut self, strip: &[u8])
         requires fits { self.old.at + length strip.now ≤ length self.old.out.now }
         requires by_index { (i : ℕ) → get_or strip.now i 0 ≤ 4 }
-        ensures same_buffer { self.new.out.ghost_name ≡ self.old.out.ghost_name }
-        ensures put { Wrote self.old (widths strip.now) self.new }
+        ensures { Wrote self.old (widths strip.now) self.new }
     {
         let behind = self.at + strip.len();
         put_widths(strip, &mut self.out[self.at..behind]);
@@ -66,7 +61,7 @@ impl Line<'_> {
 }
 
 // How many decimal digits a number has.
-// Stays by hand, as `put_digits` does: std's `write!` into a slice answers a `Result`, and no clause of std says that it is `Ok` where there is room.
+// Stays by hand, as `put_digits` does: std says of a `write!` into a slice how much it took, and not what the slice then holds.
 fn count_digits(n: u64) -> usize
     ensures value { result ≡ length (decimal n) }
     ensures upper_bound { result ≤ 20 }

@@ -1,6 +1,6 @@
 -- The loop over a strip's parts: what is read of the whole is the rows of the parts that were passed, and then what is read of the others.
 --
---   Left, started, Turn, turn, ended    what is left to read, a part of it, and its end
+--   Left, started, Turn, turn, ended, ended-part    what is left to read, a part of it, and its end
 --   Arm, tables, by_key, by_two, last    the sets of each number, and where its rows begin
 --   asks, gives   so what `read_parts` asks is met, and what it gives is the whole
 --

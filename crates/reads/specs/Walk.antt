@@ -1,6 +1,6 @@
 -- How reading stands in the structs of src/.
 --
---   Run, walk_by     how far a part's units are read, and the places that their rows went to
+--   Run, past, stop, walk_by     how far a part's units are read, and the places that their rows went to
 --   Passed          units that were all read: the rows that they show, in their places, and the reading goes on behind them
 --   PartEnds, PartRead    units, and a part: all are passed, or the one at a place is in no row
 --   Ended           how a walk ends, by what is read

@@ -22,6 +22,7 @@ pub fn pairs(codes: &mut [u8; PLACES], n: usize)
     requires behind { (i : ℕ) → n ≤ i + i → get_or codes.old i 0 ≡ 0 }
     ensures { codes.new ≡ row_of 5 n (shown_in 5 codes.old) }
 {
+    // Stays from the back by index: a row is read where digits of others are put.
     for i in (0..n / 2).rev() {
         let row = codes[i];
         codes[2 * i] = row / 10;

@@ -13,7 +13,7 @@ mod chars;
 mod position;
 mod walk;
 
-ghost use Rattle.std.specs.Prelude.{◌≡◌, true, [], ℕ, ◌<◌, ◌≤◌, length, get_or};
+ghost use Rattle.std.specs.Prelude.{◌≡◌, true, [], ℕ, ◌<◌, ◌≤◌, get_or};
 ghost use Rattle.laws.specs.Units.{read};
 ghost use Rattle.symbologies.specs.Sizes.{places};
 ghost use Rattle.symbologies.specs.Strips.{units_of, counted, row_seen};
@@ -32,6 +32,7 @@ pub fn row_seen(symbology: u8, mode: u8, strip: &[u8], row: &mut Row) -> Result<
     *row = Row::EMPTY;
     let n = lengths::count_for(symbology, strip.len());
     judging::judge_count(symbology, mode, n)?;
+    // Stays a `match`: `give` and `refuse` both take the lent row.
     match read_strip(symbology, n, strip, &mut row.codes) {
         Ok(()) => row::give(n, row),
         Err(answer) => row::refuse(answer, row),

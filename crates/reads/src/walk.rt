@@ -1,9 +1,8 @@
 // The walk over a strip's parts, left to right, to the first unit that is in no row.
 //
 // A step of the walk is `Ok` of the place behind it, or `Err` of the place of the unit that is in no row.
-ghost use Rattle.std.specs.Prelude.{◌≡◌, true, ◌+◌, ◌≤◌, length};
+ghost use Rattle.std.specs.Prelude.{◌≡◌, true, ◌≤◌, length};
 ghost use Rattle.laws.specs.Units.{frees, read};
-ghost use Rattle.symbologies.specs.Sizes.{places};
 ghost use Rattle.symbologies.specs.Strips.{units_of, counted};
 ghost use Rattle.shapes.specs.Sets.{sets_of};
 ghost use Rattle.shapes.specs.Searched.{seekable};

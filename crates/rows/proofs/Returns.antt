@@ -3,6 +3,7 @@
 --   drawn-long      how many characters are drawn
 --   closed-plain, closed-wrong, closed-right, closed-added    7: no check, a wrong one, a right one, one that is put in
 --   bad-byte        4; some-chars, few-chars, the characters of a text in which no byte is bad
+--   let-fill        what is behind 4
 --   not-drawn, let-close    5, 6, and then 7, of that text
 --   field-turned, field-given    1, 2, 3, 13, and then that
 --
@@ -93,6 +94,9 @@ module _ (s m : ℕ) (text : List ℕ) (row : Row) (sum : Sum) (w : SpelledAll (
   behind-text : filled_row (symbology_of s) m text ≡ finished_row (symbology_of s) m w.body
   unfolding filled_row finished_row
   behind-text = rw w.is
+
+  pub let-fill : told (finished_row (symbology_of s) m w.body) ≡ told (filled_row (symbology_of s) m text)
+  let-fill = ap told (sym behind-text)
 
   module _ (count : ℕ) (n : count ≡ row.len + added m) where
     long : length (drawn_of (symbology_of s) m w.body) ≡ count

@@ -1,7 +1,7 @@
 -- How lists stand in the structs of src/.
 --
 --   pushed, put_all   a row with one character more, and with several
---   SpelledAs        what data spell, as the code holds it: the row and its sum, or 4 with the place of the byte that stops them
+--   SpelledAs, SpelledAll, Stopped    what data spell, as the code holds it: the row and its sum, or 4 with the place of the byte that stops them
 --   settled          what a step answers, and its row, or none where it turns the data away
 --   closed_row, finished_row, filled_row    the row of what was spelled, behind 7, behind 5, 6, 7, and of data, behind 4, 5, 6, 7
 use Rattle.std.specs.Prelude.{◌≡◌, List, [], ◌∷◌, ℕ, ◌+◌, set, Result, Ok, Err}

@@ -84,7 +84,7 @@ fn begin(strip: &[u8], place: usize, gap: bool, k: usize) -> Result<usize, usize
     if !is_parted(strip, place, gap) {
         return Err(place);
     }
-    let at = if gap { place + 1 } else { place };
+    let at = place + usize::from(gap);
     if at <= strip.len() && k <= strip.len() - at {
         Ok(at)
     } else {

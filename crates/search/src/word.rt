@@ -3,6 +3,9 @@ ghost use Rattle.std.specs.Prelude.{◌≡◌, ◌≤◌, length};
 ghost use Rattle.shapes.specs.Sets.{low};
 ghost use Rattle.shapes.specs.Searched.{seen, every_second};
 
+// What the ninth element counts in its word.
+const TOP: u64 = 0x1000000000000000;
+
 // The word of at most eight.
 // Stays an arm for each size: a loop over the elements takes "about 0.5 more" (docs/SPEED.md, "What was tried"), and a copy into `[0; 8]` by
 // `copy_from_slice` a fifth more than these arms.
@@ -36,7 +39,7 @@ pub fn word_of(elements: &[u8]) -> u64
     if elements[7] > 15 || elements[8] > 15 {
         return 0;
     }
-    several(&elements[..8]) + elements[8] as u64 * 0x1000000000000000
+    several(&elements[..8]) + u64::from(elements[8]) * TOP
 }
 
 // The word of five elements, every second one of nine.

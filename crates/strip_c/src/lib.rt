@@ -40,7 +40,7 @@ pub extern "C" fn strip_read(
 }
 
 // Number, place, count and total of an answer.
-// Stays a function: a crate may give a `From` only to a type of its own.
+// Stays a function: the edits `c_count_for_total` and `c_number_without_place` are of its fields, and std has no `From` of a `usize` for a `u64`.
 fn four_of(answer: Answer) -> [u64; 4]
     ensures { result ≡ four_of answer }
 {

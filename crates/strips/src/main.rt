@@ -38,6 +38,7 @@ fn main(rt: HostRuntime) {
 }
 
 // Reads and prints until the input or the run ends.
+// Stays a buffer and a number: one loop has them, and a struct of the two would have two methods for it.
 fn run(rt: &HostRuntime) -> Result<(), Failure> {
     let mut held = [0; 65536];
     let mut room = [0; 65536];

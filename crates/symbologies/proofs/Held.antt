@@ -4,7 +4,7 @@
 --   set-pad        one entry more, stored behind the others
 --   get_or-pad       an entry, where it has a place
 --   take-pad       a list that has places is taken out again
---   row-long, row-taken    of a row that holds a list: its places, and its first `len` are the list
+--   row-long       of a row that holds a list: its places
 --
 -- Assumes nothing.
 use Rattle.std.proofs.Common.{◌≡◌, refl, ap, ◌∙◌, List, [], ◌∷◌, ◌++◌, ℕ, zero, suc, ◌<◌, ◌≤◌, arith, length, get_or, take, set}
@@ -39,6 +39,3 @@ take-pad (suc n) (c ∷ cs) h = ap (λ (l : List ℕ). c ∷ l) (take-pad n cs (
 module _ (row : Row) (r : List ℕ) (e : row ≡ row_in r) where
   pub row-long : length row.codes ≡ places
   row-long = ap (λ (x : Row). length x.codes) e ∙ length-pad places r
-
-  pub row-taken : length r ≤ places → take row.len row.codes ≡ r
-  row-taken h = rw e (take-pad places r h)

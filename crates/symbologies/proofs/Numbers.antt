@@ -1,6 +1,6 @@
 -- The symbologies by their numbers: what holds of every line, by a look at each.
 --
---   Lines, by_number   what holds of each line, and of an unknown symbology, holds of every number
+--   by-test, by_number   what holds of each line, and of an unknown symbology, holds of every number
 --   three-modes        every line has three modes
 --   Digits, others     every number but 1, 2 and 3 draws digits
 --   only-five, only_two    only Interleaved asks for an even count, and only full ASCII for fewer characters than there are places

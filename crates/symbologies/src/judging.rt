@@ -59,6 +59,7 @@ pub fn judge_drawn(symbology: u8, count: usize) -> Result<(), Answer>
 }
 
 // The data bytes behind so many characters, if each drew one: mode 2 added the check.
+// Stays beside `own_of` of sums: mode 2 adds a check, where mode 1 has one among the data.
 fn data_count(mode: u8, n: usize) -> usize
     ensures { result ≡ n - added mode }
 {

@@ -25,6 +25,7 @@ pub fn elements_of(symbology: u8, n: usize) -> usize
 }
 
 // What characters have less than the most modules, together: two for each of Codabar's digits, - and $.
+// Stays a test of the symbology: outside Codabar there is nothing to look at.
 fn less_in(symbology: u8, codes: &[u8]) -> usize
     requires { length codes.now ≤ places }
     ensures { result ≡ sum (map (symbology_of symbology).less codes.now) }

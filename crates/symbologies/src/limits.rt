@@ -1,6 +1,6 @@
 // What a symbology takes, by mode, and which drawn counts it has: document 01's table.
-ghost use Rattle.std.specs.Prelude.{◌≡◌, true};
-ghost use Rattle.symbologies.specs.Limits.{offered, holds, odd};
+ghost use Rattle.std.specs.Prelude.{◌≡◌, true, get_or};
+ghost use Rattle.symbologies.specs.Limits.{none, offered, holds, odd};
 ghost use Rattle.symbologies.specs.Symbologies.{symbology_of};
 
 use super::sizes::PLACES;
@@ -81,22 +81,26 @@ pub fn limits_of(symbology: u8) -> Limits
 }
 
 impl Limits {
+    // The data bytes that a mode takes, at least and at most. One that is not there is not offered.
+    fn mode(self, mode: u8) -> (u8, u8)
+        ensures { result ≡ get_or self.modes mode none }
+    {
+        self.modes.get(usize::from(mode)).copied().unwrap_or(NONE)
+    }
+
     // 2: whether a mode is offered.
     pub fn offers(self, mode: u8) -> bool
         ensures { result ≡ offered self mode }
     {
-        mode < 3 && 0 < self.modes[mode as usize].1
+        self.mode(mode).1 > 0
     }
 
-    // 3: whether a mode takes so many data bytes. One that is not there takes none.
+    // 3: whether a mode takes so many data bytes.
     pub fn takes(self, mode: u8, count: usize) -> bool
         ensures { result ≡ holds self mode count }
     {
-        if 2 < mode {
-            return count == 0;
-        }
-        let (least, most) = self.modes[mode as usize];
-        least as usize <= count && count <= most as usize
+        let (least, most) = self.mode(mode);
+        (usize::from(least)..=usize::from(most)).contains(&count)
     }
 
     // 5: whether the drawn count must be even and is not.

@@ -11,7 +11,7 @@ const CHARS: [u8; 43] = *b"0123456789ABCDEFGHIJKLMNOPQRSTUVWXYZ-. $/+%";
 pub fn value(byte: u8) -> Option<u8>
     ensures { result ≡ below 43 (value_of alphabet39 byte) }
 {
-    // Stays a `match` of its own: the tables' ranges differ, and the line of the digits is all that they share.
+    // Stays a `match` of its own, beside `CHARS`: the tables' ranges differ, and a search of `CHARS` would look at up to 43 bytes for each.
     match byte {
         b'0'..=b'9' => Some(byte - b'0'),
         b'A'..=b'Z' => Some(byte - b'A' + 10),

@@ -28,6 +28,7 @@ pub fn paired(chars: &[u8]) -> [u8; PLACES]
     ensures { take (length chars.now / 2) result ≡ paired chars.now }
 {
     let mut rows = [0; PLACES];
+    // Stays with an index, here and in `sided`: a proof does not know what `iter_mut().zip(..)` leaves in the rows.
     for (i, pair) in chars.chunks_exact(2).enumerate() {
         rows[i] = 10 * pair[0] + pair[1];
     }

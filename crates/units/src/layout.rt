@@ -14,7 +14,7 @@ use shapes::{parts, sets};
 use words::ElementPlace;
 
 // The parting space, if there is one, and the place behind it.
-// Stays a buffer and a place, here and below: `Put` speaks of both, and a struct around a `&mut` would only stand before them in each clause.
+// Stays a buffer and a place, here and below: a struct around a `&mut` would only stand before both in each clause, which says `Put` of them.
 fn put_gap(out: &mut [u8], place: ElementPlace, gap: bool) -> usize
     requires { place.0 + length (strip (gap_in gap) []) ≤ length out.old }
     ensures { Put out.old place.0 (strip (gap_in gap) []) out.new result }

@@ -7,7 +7,7 @@ use symbologies::sizes::LONGEST;
 use words::{Answer, Said};
 
 pub fn run(rt: &HostRuntime, line: &[u8]) -> io::Result<()> {
-    if line.is_empty() || line[0] == b'#' {
+    if matches!(line, [] | [b'#', ..]) {
         return Ok(());
     }
     let mut room = [FILL; LONGEST];
@@ -56,6 +56,7 @@ struct Vector<'a> {
 }
 
 impl<'a> Vector<'a> {
+    // Stays beside `read`: form, buffer and call differ, and each is four lines.
     fn draw(self, room: &mut [u8]) -> Option<Line<'a>> {
         let mut text = [0; 64];
         let count = Form::Text.read(self.words.left, &mut text)?;

@@ -39,6 +39,7 @@ fn put(out: &mut [u8], at: usize, k: usize, word: u64)
 }
 
 // A row of k elements, three to nine.
+// Stays a test of k: `row_of`, the promise, has the ninth element in the upper half of the eighth byte.
 pub fn put_row(out: &mut [u8], at: usize, k: usize, word: u64)
     requires { (3 ≤ k) × ((k ≤ 9) × (at + k ≤ length out.old)) }
     ensures { Put out.old at (row_of k word) out.new (at + k) }
@@ -58,6 +59,7 @@ pub fn put_pair(out: &mut [u8], at: usize, bars: u64, spaces: u64)
 {
     let bars = bars.to_le_bytes();
     let spaces = spaces.to_le_bytes();
+    // Stays a `for` over indexes: a proof does not know what `chunks_exact_mut` leaves in the buffer.
     for i in 0..5 {
         out[at + 2 * i] = bars[i];
         out[at + 2 * i + 1] = spaces[i];

@@ -7,6 +7,6 @@ use Rattle.lines.proofs.end_line.Goals as goal
 pub returns : goal.returns
 returns c =
     let a = c.args in
-    let put = end-put a.records a.drawn c.word.ensures.put c.number.ensures.put c.number-2.ensures.put in
+    let put = end-put a.records a.drawn c.word.ensures c.number.ensures.put c.number-2.ensures.put in
     let both = in-room c.if-out-lt-LONGEST_LINE.false put (search rules) in
     record { value = both.0; out_after = both.1; in_bounds = both.2 }

@@ -16,5 +16,5 @@ returns c =
     let a = c.args in
     let both = record-put a.number a.symbology a.mode a.count a.field.now c.draw_field-answer.result c.from-said.result
     c.draw_field-answer.new.out c.draw_field-answer.ensures.value c.draw_field-answer.ensures.out_after c.from-said.ensures
-    c.put_said.ensures.put c.put_strip.ensures.put (search rules) in
+    c.put_said.ensures.put c.put_strip.ensures (search rules) in
     record { put = both.0; drawn_value = both.1 }

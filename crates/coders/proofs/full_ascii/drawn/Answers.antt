@@ -21,26 +21,8 @@ reaches n b e = omega arith
 fits : (b from to most : ℕ) → b < most → leb (most + to) 256 ≡ true → Fits w8 (b - from + to)
 fits b from to most h t = omega (arith, leb-true (most + to) 256 t)
 
-pub returns-in-32 : goal.returns-in-32
-returns-in-32 c = rw c.in-32.is (unfold full_coder value_of alphabet39 chars39 index_in drawing ranges in refl)
-
-pub returns-in-45 : goal.returns-in-45
-returns-in-45 c = rw c.in-45.is (unfold full_coder value_of alphabet39 chars39 index_in drawing ranges in refl)
-
-pub returns-in-46 : goal.returns-in-46
-returns-in-46 c = rw c.in-46.is (unfold full_coder value_of alphabet39 chars39 index_in drawing ranges in refl)
-
-pub returns-in-47 : goal.returns-in-47
-returns-in-47 c = rw c.in-47.is (unfold full_coder value_of alphabet39 chars39 index_in drawing ranges in refl)
-
 pub returns-in-58 : goal.returns-in-58
 returns-in-58 c = rw c.in-58.is (unfold full_coder value_of alphabet39 chars39 index_in drawing ranges in refl)
-
-pub returns-in-64 : goal.returns-in-64
-returns-in-64 c = rw c.in-64.is (unfold full_coder value_of alphabet39 chars39 index_in drawing ranges in refl)
-
-pub returns-in-96 : goal.returns-in-96
-returns-in-96 c = rw c.in-96.is (unfold full_coder value_of alphabet39 chars39 index_in drawing ranges in refl)
 
 pub returns-in-33-to-44 : goal.returns-in-33-to-44
 unfolding full_coder value_of alphabet39 chars39 index_in drawing ranges

@@ -1,7 +1,7 @@
 -- `number`: the digits, and a byte behind them.
 -- Assumes nothing.
-use Rattle.laws.proofs.Writing.{then}
+use Rattle.lines.proofs.Texts.{joined}
 use Rattle.lines.proofs.text.Line.number.Goals as goal
 
 pub returns-clause-put : goal.returns-clause-put
-returns-clause-put c = then c.digits.ensures.put c.byte.ensures.put
+returns-clause-put c = joined c.digits.ensures.put c.byte.ensures
