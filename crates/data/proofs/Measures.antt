@@ -10,7 +10,8 @@
 -- Assumes nothing.
 use Rattle.std.proofs.Common.{Option, None, ◌≡◌, refl, sym, ap, ◌∙◌, Bool, true, false, ◌≢◌, List, [], ◌∷◌, ◌++◌, ℕ, suc, ◌+◌, ◌*◌, ◌-◌, ◌<◌, ◌≤◌, arith, eqb, ltb, length, get_or, take, drop, set, length-append, length-take, length-drop, drop_of_length-le, drop-cons, drop-drop, length-take-le, take_all, take-take, take-add, eq-eqb, ne_eqb, lt-ltb, le-ltb, ltb-true, ltb-false, Some}
 use native.Mathlib.Decide.{dec_lt, ℕ_discrete}
-use lib.Seq.{set_at, append_snoc}
+use Rattle.std.proofs.lemmas.List.{set_at}
+use lib.Seq.{append_snoc}
 use Rattle.laws.specs.Search.{pick, some_if}
 use Rattle.laws.specs.Units.{Reading, found, stopped, push}
 use Rattle.laws.specs.Spelling.{ends, stands, Coder, join, byte_for, gave, unspell}

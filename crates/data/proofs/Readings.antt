@@ -9,7 +9,7 @@
 -- Assumes nothing.
 use Rattle.std.proofs.Common.{◌≡◌, refl, ap, ◌∙◌, ◌≢◌, Bool, true, false, not, List, ◌++◌, ℕ, zero, suc, ◌-◌, ◌<◌, ◌≤◌, arith, eqb, length, get_or, take, drop, eq-eqb, ne_eqb, lt-ltb, le-ltb, Result, Ok, Err, MatchResult, IsErrAnd}
 use lib.Seq.{take-length}
-use borrow.Author.Tests.{not-false}
+use Rattle.std.proofs.lemmas.Bool.{not-false}
 use Rattle.laws.specs.Search.{pick}
 use Rattle.laws.specs.Units.{found}
 use Rattle.laws.specs.Rules.{others_of, check_of}

@@ -14,7 +14,7 @@
 -- Assumes nothing.
 use Rattle.std.proofs.Common.{◌≡◌, refl, sym, ap, ◌∙◌, Bool, true, false, ◌⊎◌, inl, inr, List, [], ◌∷◌, ◌++◌, append-nil, append_assoc, ℕ, zero, suc, ◌+◌, ◌-◌, ◌<◌, ◌≤◌, arith, leb, ltb, length, get_or, take, drop, length-append, length-drop, drop-drop, leb-false, le-leb, le-ltb}
 use lib.ListN.{get_or-append}
-use lib.Seq.{drop-append-le, take-append-le}
+use Rattle.std.proofs.lemmas.List.{drop-append-le, take-append-le}
 use Rattle.laws.specs.Search.{pick}
 use Rattle.lines.specs.Sizes.{longest_line}
 use Rattle.lines.specs.Line.{stop_line}

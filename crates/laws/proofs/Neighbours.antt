@@ -9,7 +9,7 @@
 use Rattle.std.proofs.Common.{◌≡◌, refl, sym, ◌∙◌, ◌↔◌, ◌⊎◌, inl, inr, List, ℕ, zero, suc, ◌+◌, ◌*◌, ◌%◌, ◌<◌, arith, mul-add, add-mul, length, get_or, set, length-set, get_or-set_other}
 use native.Mathlib.Nat.{zero-mod}
 use native.Mathlib.Decide.{dec_lt}
-use lib.Seq.{set-get_or}
+use Rattle.std.proofs.lemmas.List.{set-get_or}
 use Rattle.laws.specs.Weigh.{dot, turns}
 use Rattle.laws.specs.Neighbours.{swapped, difference}
 use Rattle.laws.proofs.Remainders.{balance}

@@ -14,7 +14,8 @@
 -- Assumes nothing.
 use Rattle.std.proofs.Common.{◌≡◌, refl, sym, ap, ◌∙◌, ◌↔◌, ◌≢◌, Bool, true, List, [], ◌∷◌, ◌++◌, append-nil, ℕ, zero, suc, ◌+◌, ◌-◌, ◌*◌, ◌%◌, ◌<◌, ◌≤◌, arith, mod-lt, eqb, length, get_or, take, drop, set, length-append, length-drop, length-set, take-append-drop, drop_of_length-le, length-take-le, take_at, drop_at, eqb-true, eq-eqb}
 use mathlib.Core.Logic.Iff
-use lib.Seq.{take-length, drop-length, get_or_at, set_at, split_at}
+use Rattle.std.proofs.lemmas.List.{get_or_at, set_at}
+use lib.Seq.{take-length, drop-length, split_at}
 use Rattle.laws.specs.Weigh.{dot, Inverses}
 use Rattle.laws.specs.Rules.{inserted, without, Rule, place_of, others_of, check_of, checked_of, passes, weights_of}
 use Rattle.laws.specs.Neighbours.{swapped, difference}

@@ -10,7 +10,7 @@
 --
 -- Assumes nothing.
 use Rattle.std.proofs.Common.{◌≡◌, sym, ap, ◌∙◌, Bool, true, ◌&&◌, not, List, [], ℕ, ◌<◌, arith, eqb, length, get_or, eqb-true}
-use borrow.Author.Tests.{eqb-false, not-true}
+use Rattle.std.proofs.lemmas.Bool.{eqb-false, not-true}
 use Rattle.laws.specs.Elements.{alike, find, dist, sum}
 use Rattle.laws.specs.Units.{Good, Level}
 use Rattle.laws.proofs.Finite.{both_left, both_right, every, every-at}

@@ -10,7 +10,8 @@
 --
 -- Assumes nothing.
 use Rattle.std.proofs.Common.{◌≡◌, refl, sym, ap, ◌∙◌, List, [], ◌∷◌, ◌++◌, append_assoc, ℕ, ◌+◌, ◌-◌, ◌<◌, ◌≤◌, arith, add-zero, zero-add, add_assoc, add-one, length, take, drop, set, length-append, length-drop, take-append-drop, take_at, drop-drop, length-take-le}
-use lib.Seq.{drop-append-add, set_split}
+use Rattle.std.proofs.lemmas.List.{set_split}
+use lib.Seq.{drop-append-add}
 use Rattle.laws.specs.Writing.{put_in, Put, front}
 
 same-long : (out text : List ℕ) (at : ℕ) → at + length text ≤ length out → length (put_in at text out) ≡ length out

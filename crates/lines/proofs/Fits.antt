@@ -6,7 +6,7 @@
 --
 -- Assumes nothing.
 use Rattle.std.proofs.Common.{◌≡◌, ◌≢◌, List, ℕ, ◌<◌, ◌≤◌, arith, length, take, replicate, ltb-true}
-use lib.ListN.{length-replicate}
+use Rattle.std.proofs.lemmas.List.{length-replicate}
 use Rattle.words.specs.Said.{said_of}
 use Rattle.words.specs.Order.{gives, turned}
 use Rattle.words.proofs.Order.{none-on, Reached, first-reached, hit}

@@ -5,8 +5,7 @@
 --
 -- Assumes nothing.
 use Rattle.std.proofs.Common.{◌≡◌, sym, ap, ◌∙◌, List, ◌∷◌, ◌++◌, append-nil, append_assoc, ℕ, suc, ◌+◌, ◌/◌, ◌%◌, ◌<◌, arith, add-one, length, get_or, take, drop, set, drop_of_length-le, take-suc, drop_at, take-suc-set, length-take-le}
-use mathlib.Core.List.{map-append}
-use lib.Seq.{set_split}
+use Rattle.std.proofs.lemmas.List.{map-append, set_split}
 use Rattle.lines.specs.Text.{decimal, widths}
 use Rattle.lines.proofs.Digits.{fixed, digits-fixed}
 

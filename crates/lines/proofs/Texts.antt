@@ -12,7 +12,7 @@
 --
 -- Assumes nothing.
 use Rattle.std.proofs.Common.{◌≡◌, refl, ap, ◌∙◌, Bool, true, false, List, [], ◌∷◌, ◌++◌, append_assoc, ℕ, ◌≤◌, arith, eqb, length, get_or, take, replicate, length-append, length-take, le-ltb, eq-eqb, ne_eqb, eqb-true}
-use lib.ListN.{length-map}
+use Rattle.std.proofs.lemmas.List.{length-map}
 use Rattle.laws.specs.Search.{pick}
 use Rattle.words.specs.declared.Said.{Said}
 use Rattle.words.specs.Said.{said_of}

@@ -15,8 +15,9 @@
 use Rattle.std.proofs.Common.{Result, Ok, Err, Option, ok_or, ltb-false, ◌≡◌, refl, sym, ap, ◌∙◌, Bool, true, false, List, [], ◌∷◌, ◌++◌, ℕ, zero, suc, ◌+◌, ◌*◌, ◌-◌, ◌/◌, ◌%◌, ◌<◌, ◌≤◌, arith, zero-add, eqb, ltb, leb, length, get_or, take, drop, set, length-set, length-take-le, get_or-append-add, get_or-take, get_or-drop, ltb-true, lt-ltb, le-ltb, leb-true, eq-eqb, ne_eqb}
 use native.Mathlib.Decide.{dec_lt}
 use lib.Dec.{eqb-suc-zero}
-use lib.ListN.{length-map, get_or-append, get_or-eq_default}
-use borrow.Author.Tests.{not-false}
+use Rattle.std.proofs.lemmas.Bool.{not-false}
+use Rattle.std.proofs.lemmas.List.{length-map}
+use lib.ListN.{get_or-append, get_or-eq_default}
 use Rattle.laws.specs.Search.{pick, some_if, below}
 use Rattle.laws.specs.Elements.{find}
 use Rattle.laws.specs.Units.{Kind, fixed, free, rows, width, frees, Reading, found, stopped, next, read_at, read}

@@ -9,9 +9,10 @@
 -- Assumes nothing.
 use Rattle.std.proofs.Common.{Result, Ok, Err, ◌≡◌, refl, sym, ap, ◌∙◌, ◌≢◌, Bool, true, false, ◌&&◌, List, [], ◌∷◌, ◌++◌, map, append_assoc, ℕ, zero, suc, ◌+◌, ◌*◌, ◌-◌, ◌/◌, ◌%◌, ◌<◌, ◌≤◌, arith, not-suc-le-zero, le_of_suc-le-suc, eqb, ltb, leb, length, get_or, take, drop, set, length-set, length-drop, length-take, drop-drop, take_all, get_or-take, get_or-drop, eqb-true, ne_eqb, ltb-true, ltb-false, le-ltb, leb-true, leb-false}
 use native.Mathlib.Decide.{dec_lt}
-use lib.ListN.{length-map, get_or-eq_default}
+use Rattle.std.proofs.lemmas.Bool.{eqb-false}
+use Rattle.std.proofs.lemmas.List.{length-map}
+use lib.ListN.{get_or-eq_default}
 use lib.Seq.{drop-nil}
-use borrow.Author.Tests.{eqb-false}
 use Rattle.laws.specs.Search.{pick, upto}
 use Rattle.laws.specs.Elements.{alike, find}
 use Rattle.laws.specs.Units.{Kind, fixed, free, width, Reading, stopped, push, next, read_at}

@@ -6,7 +6,7 @@
 --
 -- Assumes nothing.
 use Rattle.std.proofs.Common.{◌≡◌, refl, Bool, true, false, List, ℕ, ◌+◌, ◌*◌, ◌/◌, ◌%◌, ◌^◌, ◌<◌, ◌≤◌, arith, mod-lt, eqb, ltb, leb, lit<, length, take, drop, ltb-true, ltb-false, leb-true, leb-false, lt-ltb, le-ltb, le-leb}
-use borrow.Author.Tests.{lt-leb}
+use Rattle.std.proofs.lemmas.Bool.{lt-leb}
 use Rattle.laws.specs.Search.{pick}
 use Rattle.laws.proofs.Finite.{both_left, both_right, upto-at}
 use Rattle.tables.specs.Bits.{bit}

@@ -9,8 +9,8 @@
 --
 -- Assumes nothing.
 use Rattle.std.proofs.Common.{◌^◌, pow-suc, ◌≡◌, refl, sym, ap, ◌∙◌, ◌≢◌, Bool, true, false, ◌&&◌, ◌||◌, List, [], ◌∷◌, ◌++◌, map, ℕ, zero, suc, ◌+◌, ◌*◌, ◌-◌, ◌/◌, ◌%◌, ◌<◌, ◌≤◌, arith, add-zero, eqb, ltb, leb, length, get_or, take, drop, length-drop, length-take, length-take-le, take-suc, take_all, get_or-take, get_or-drop, eqb-true, eq-eqb, ltb-true, ltb-false, leb-true}
-use lib.ListN.{length-map}
-use borrow.Author.Tests.{eqb-false, not-true}
+use Rattle.std.proofs.lemmas.Bool.{eqb-false, not-true}
+use Rattle.std.proofs.lemmas.List.{length-map}
 use Rattle.laws.specs.Search.{pick, upto}
 use Rattle.laws.specs.Elements.{alike, find}
 use Rattle.laws.specs.Spelling.{counted}

@@ -4,7 +4,7 @@
 --
 -- Assumes nothing.
 use Rattle.std.proofs.Common.{◌≡◌, ◌∙◌, true, ◌&&◌, List, ℕ, arith, leb, length, take, length-take-le, take_all, leb-true, le-leb}
-use borrow.Author.Tests.{not-false}
+use Rattle.std.proofs.lemmas.Bool.{not-false}
 use Rattle.laws.proofs.Finite.{both_left, both_right}
 use Rattle.words.specs.Order.{gives, turned}
 use Rattle.words.proofs.Order.{None, none-on, given}

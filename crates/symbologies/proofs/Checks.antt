@@ -8,7 +8,7 @@
 --
 -- Assumes nothing.
 use Rattle.std.proofs.Common.{◌≡◌, refl, sym, ◌∙◌, List, ◌≢◌, ℕ, ◌%◌, ◌<◌, arith, one-mul, add-zero, mod-eq_of_lt, mod-lt, ltb, lit<, length, ltb-true}
-use lib.ListN.{length-reverse}
+use Rattle.std.proofs.lemmas.List.{length-reverse}
 use Rattle.laws.specs.Weigh.{dot, turns}
 use Rattle.laws.specs.Rules.{check_of}
 use Rattle.laws.proofs.Weigh.{inverses-turns, inverses-reverse, length-turns, turns-turned}

@@ -21,7 +21,7 @@
 use Rattle.std.proofs.Common.{◌≡◌, refl, sym, ap, ◌∙◌, Bool, true, false, ◌&&◌, ◌||◌, List, [], ◌∷◌, ◌++◌, map, ℕ, zero, suc, ◌+◌, ◌*◌, ◌-◌, ◌/◌, ◌%◌, ◌^◌, ◌<◌, ◌≤◌, arith, le_of_suc-le-suc, not-suc-le-zero, div-one, pow-suc, suc-add, eqb, length, get_or, take, drop, length-drop, take_all, length-take-le, ltb-false, lt-ltb, le-ltb, le-leb}
 use native.Mathlib.Nat.{div-div-eq-div-mul}
 use lib.Dec.{eqb-zero-suc, eqb-suc-zero, eqb-suc-suc}
-use lib.ListN.{length-map}
+use Rattle.std.proofs.lemmas.List.{length-map}
 use Rattle.laws.specs.Search.{pick, index_in}
 use Rattle.laws.specs.Units.{Kind, fixed, free, Fits}
 use Rattle.laws.specs.Shapes.{many}

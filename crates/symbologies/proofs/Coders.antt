@@ -20,7 +20,7 @@
 use Rattle.std.proofs.Common.{◌≡◌, refl, sym, ap, ◌∙◌, Bool, true, false, ◌&&◌, not, List, [], ◌∷◌, map, ℕ, suc, ◌+◌, ◌-◌, ◌<◌, ◌≤◌, arith, eqb, ltb, leb, length, eqb-true, ltb-true, lt-ltb}
 use mathlib.Core.Bool.{and-false}
 use native.Mathlib.Decide.{dec_lt}
-use borrow.Author.Tests.{lt-leb, not-true}
+use Rattle.std.proofs.lemmas.Bool.{lt-leb, not-true}
 use Rattle.laws.specs.Search.{pick, first, index_in, upto}
 use Rattle.laws.specs.Elements.{alike}
 use Rattle.laws.specs.Units.{Reading, found, push}

@@ -15,7 +15,7 @@
 use Rattle.std.proofs.Common.{◌≡◌, refl, Bool, true, false, ◌&&◌, ◌||◌, not, [], ℕ, zero, suc, ◌+◌, ◌*◌, ◌-◌, ◌/◌, ◌%◌, ◌<◌, ◌≤◌, arith, leb, leb-true}
 use native.Mathlib.Decide.{dec_lt}
 use lib.ListN.{get_or-eq_default}
-use borrow.Author.Tests.{eqb-false, not-true}
+use Rattle.std.proofs.lemmas.Bool.{eqb-false, not-true, or_left, or_right}
 use Rattle.laws.specs.Search.{pick, upto}
 use Rattle.laws.proofs.Finite.{both_left, both_right, upto-at, From, from_at}
 use Rattle.symbologies.specs.declared.limits.Limits.{Limits}
@@ -63,13 +63,6 @@ unfolding counted
 by_mode s n f =
     either (counts (symbology_of s) n 0) _ (λ e. f 0 (of-mode s n 0 e))
     (either (counts (symbology_of s) n 1) (counts (symbology_of s) n 2) (λ e. f 1 (of-mode s n 1 e)) (λ e. f 2 (of-mode s n 2 e)))
-
-or_left : (a b : Bool) → a ≡ true → (a || b) ≡ true
-or_left a b p = rw p
-
-or_right : (a b : Bool) → b ≡ true → (a || b) ≡ true
-or_right true b p = refl
-or_right false b p = p
 
 pub counted-by : (s n m : ℕ) → m < 3 → counts (symbology_of s) n m ≡ true → counted s n ≡ true
 unfolding counted

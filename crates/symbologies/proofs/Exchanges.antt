@@ -11,7 +11,7 @@ use mathlib.Core.List.{reverse_aux, reverse_aux-eq}
 use native.Mathlib.Nat.{zero-mod}
 use native.Mathlib.Decide.{ℕ_discrete}
 use lib.ListN.{get_or-append}
-use lib.Seq.{get_or_at}
+use Rattle.std.proofs.lemmas.List.{get_or_at}
 use Rattle.laws.specs.Search.{pick}
 use Rattle.laws.specs.Spelling.{Place}
 use Rattle.laws.specs.Rules.{Rule, place_of, passes, weights_of}

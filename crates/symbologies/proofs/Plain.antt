@@ -8,7 +8,7 @@
 -- Assumes nothing.
 use Rattle.std.proofs.Common.{◌≡◌, sym, ap, ◌∙◌, true, List, map, append-nil, ℕ, suc, ◌-◌, ◌<◌, ◌≤◌, arith, length, take, drop_of_length-le, take_all, length-take-le, eq-eqb, ne_eqb}
 use native.Mathlib.Decide.{ℕ_discrete}
-use lib.ListN.{length-map}
+use Rattle.std.proofs.lemmas.List.{length-map}
 use Rattle.laws.specs.Units.{found}
 use Rattle.laws.specs.Spelling.{unspell}
 use Rattle.laws.specs.Rules.{place_of}

@@ -17,7 +17,7 @@
 -- Assumes nothing.
 use Rattle.std.proofs.Common.{◌≡◌, refl, ap, ◌≢◌, Bool, true, false, List, [], ◌∷◌, ℕ, zero, suc, ◌+◌, ◌-◌, ◌/◌, ◌^◌, ◌<◌, ◌≤◌, arith, le_of_suc-le-suc, not-suc-le-zero, mod-lt, mul-le-mul_left, eqb, ltb, leb, lit<, length, take, drop, length-drop, ltb-true, leb-true, ne_eqb}
 use native.Mathlib.Decide.{ℕ_discrete}
-use borrow.Author.Tests.{eqb-false}
+use Rattle.std.proofs.lemmas.Bool.{eqb-false}
 use Rattle.laws.specs.Units.{fixed, free, Fits, All}
 use Rattle.laws.specs.Shapes.{many}
 use Rattle.laws.proofs.Finite.{both_left, both_right, both_true, From}

@@ -6,8 +6,8 @@
 --
 -- Assumes nothing.
 use Rattle.std.proofs.Common.{◌≡◌, sym, ap, ◌∙◌, true, false, List, ℕ, length}
-use lib.ListN.{length-map}
-use borrow.Author.Tests.{not-false}
+use Rattle.std.proofs.lemmas.Bool.{not-false}
+use Rattle.std.proofs.lemmas.List.{length-map}
 use Rattle.laws.specs.Units.{read}
 use Rattle.laws.proofs.Spelling.{counted-length}
 use Rattle.words.specs.Order.{gives}

@@ -12,7 +12,7 @@
 --
 -- Assumes nothing.
 use Rattle.std.proofs.Common.{◌≡◌, refl, sym, ◌∙◌, ◌⊎◌, inl, inr, Bool, true, false, ◌&&◌, not, List, [], ◌∷◌, ◌++◌, ℕ, ◌+◌, ◌-◌, ◌<◌, ◌≤◌, arith, leb, length, take, drop, length-take-le, ltb-false, le-leb, leb-true, Result, Ok, Err}
-use borrow.Author.Tests.{not-false, lt-leb}
+use Rattle.std.proofs.lemmas.Bool.{not-false, lt-leb}
 use Rattle.laws.specs.Search.{pick}
 use Rattle.laws.proofs.Finite.{both_left, both_right}
 use Rattle.words.specs.declared.Answer.{Answer}

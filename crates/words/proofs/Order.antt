@@ -11,7 +11,7 @@
 --
 -- Assumes nothing.
 use Rattle.std.proofs.Common.{◌≡◌, refl, ap, ◌∙◌, ◌≢◌, ◌⊎◌, inl, inr, Bool, true, false, List, [], ◌∷◌, ◌++◌, ℕ, arith, eqb}
-use borrow.Author.Tests.{eqb-false}
+use Rattle.std.proofs.lemmas.Bool.{eqb-false}
 use Rattle.laws.specs.Search.{pick}
 use Rattle.words.specs.declared.Answer.{Answer}
 use Rattle.words.specs.Said.{said_of}

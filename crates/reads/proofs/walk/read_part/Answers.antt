@@ -1,7 +1,7 @@
 -- `read_part`: the mark, and then its units.
 -- Assumes nothing.
 use Rattle.std.proofs.Common.{arith}
-use borrow.Author.Tests.{not-true, not-false}
+use Rattle.std.proofs.lemmas.Bool.{not-true, not-false}
 use Rattle.reads.proofs.Units.{mark-small, unit-seekable, part-stops, part-goes}
 use Rattle.reads.proofs.walk.read_part.Goals as goal
 

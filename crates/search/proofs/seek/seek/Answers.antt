@@ -1,7 +1,7 @@
 -- `seek`: a pair by its digits; few rows, all of their sets; more rows, the one set that the spaces tell.
 -- Assumes nothing.
 use Rattle.std.proofs.Common.{◌≡◌, ◌+◌, ◌/◌, length, lt-ltb, le-ltb, le-leb, arith}
-use borrow.Author.Tests.{lt-leb}
+use Rattle.std.proofs.lemmas.Bool.{lt-leb}
 use Rattle.search.specs.Sought.{sought_in}
 use Rattle.search.proofs.Bounds.{seek-most, seek-pair, seek-tens, ten-bound}
 use Rattle.search.proofs.seek.seek.Goals as goal
