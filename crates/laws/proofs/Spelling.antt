@@ -11,11 +11,12 @@
 --   found-nil       what is found empty is empty
 --   spell-long      there are at least as many characters as bytes; unspell-short, also where they are read back
 --   spell-same      and just as many where no byte draws a pair; spell-few, at most twice as many
+--   spell-stops     a byte that is not allowed is one of them; unspell-stops, and so is the character where a failing item begins
 --   Below, below-test, below, below_at, below_all    every entry is below a bound; by a test; at an index; if it is at each
 --   below_set, below_split    one entry replaced by another below the bound; in two parts
 --   spell-below     every character is below a bound where every drawn one is
 --   join-append, join-found, join-stopped    characters before a reading
---   same-found, never    a reading is found or stopped, and one of them
+--   same_stop, same-found, never    a reading is found or stopped, and one of them
 --   ends_at         what stands behind a place tells whether it is the last
 --
 -- Assumes nothing.
@@ -249,6 +250,54 @@ pub spell-few : (k : Coder) → Valid k → (d h : List ℕ) (start : Bool) (at 
 spell-few k v [] h start at e = rw (← found-nil h e) (omega arith)
 spell-few k v (b ∷ bs) h start at e =
     few-step k (stands start bs) at b (spell k false (suc at) bs) h (length bs) (v (stands start bs) b) (λ g p. spell-few k v bs g false (suc at) p) e
+
+-- ---- where it stops
+
+push-stopped : (c : ℕ) (z : Reading) (i : ℕ) → push c z ≡ stopped i → z ≡ stopped i
+push-stopped c (found cs) i e = cc
+push-stopped c (stopped j) i e = e
+
+pub same_stop : (i j : ℕ) → stopped i ≡ stopped j → i ≡ j
+same_stop i j e = cc
+
+joined-stopped : (cs : List ℕ) (z : Reading) (i : ℕ) → join cs z ≡ stopped i → z ≡ stopped i
+joined-stopped [] z i e = e
+joined-stopped (c ∷ cs) z i e = joined-stopped cs z i (push-stopped c (join cs z) i e)
+
+stops-step : (at : ℕ) (p : List ℕ) (z : Reading) (i n : ℕ) → (z ≡ stopped i → (suc at ≤ i) × (i < suc at + n)) → took at p z ≡ stopped i → (at ≤ i) × (i < at + suc n)
+stops-step at [] z i n ih e = let q : at ≡ i = same_stop at i e in (omega arith, omega arith)
+stops-step at (c ∷ cs) z i n ih e = let q : (suc at ≤ i) × (i < suc at + n) = ih (joined-stopped (c ∷ cs) z i e) in (omega (arith, q.0), omega (arith, q.1))
+
+spell-between : (k : Coder) (d : List ℕ) (start : Bool) (at i : ℕ) → spell k start at d ≡ stopped i → (at ≤ i) × (i < at + length d)
+spell-between k [] start at i e = let q : ◌≡◌ {A = ℕ} 0 1 = cc in absurd (omega arith)
+spell-between k (b ∷ bs) start at i e = stops-step at (k.drawn (stands start bs) b) (spell k false (suc at) bs) i (length bs) (λ q. spell-between k bs false (suc at) i q) e
+
+pub spell-stops : (k : Coder) (d : List ℕ) (start : Bool) (i : ℕ) → spell k start 0 d ≡ stopped i → i < length d
+spell-stops k d start i e = omega (arith, (spell-between k d start 0 i e).1)
+
+-- the way back
+
+gave-stopped : (at b : ℕ) (z : Reading) (t : Bool) (i n : ℕ) → at < n → (z ≡ stopped i → i < n) → pick t (push b z) (stopped at) ≡ stopped i → i < n
+gave-stopped at b (found d) true i n l ih e = let q : ◌≡◌ {A = ℕ} 0 1 = cc in absurd (omega arith)
+gave-stopped at b (stopped j) true i n l ih e = ih e
+gave-stopped at b z false i n l ih e = let q : at ≡ i = cc in omega arith
+
+stops-two : (k : Coder) (start : Bool) (at i c d : ℕ) (cs : List ℕ) (n : ℕ) (t : Bool) → at < n
+    → (unspell k false (suc (suc at)) cs ≡ stopped i → i < n) → (unspell k false (suc at) (d ∷ cs) ≡ stopped i → i < n)
+    → pick t (gave at (byte_for k (stands start cs) (c ∷ d ∷ [])) (unspell k false (suc (suc at)) cs)) (gave at (byte_for k (stands start (d ∷ cs)) (c ∷ [])) (unspell k false (suc at) (d ∷ cs))) ≡ stopped i
+    → i < n
+stops-two k start at i c d cs n true l two one e = gave-stopped at _ _ (ltb (byte_for k (stands start cs) (c ∷ d ∷ [])) 256) i n l two e
+stops-two k start at i c d cs n false l two one e = gave-stopped at _ _ (ltb (byte_for k (stands start (d ∷ cs)) (c ∷ [])) 256) i n l one e
+
+none-stops : (i n : ℕ) → found [] ≡ stopped i → i < n
+none-stops i n e = let q : ◌≡◌ {A = ℕ} 0 1 = cc in absurd (omega arith)
+
+pub unspell-stops : (k : Coder) (h : List ℕ) (start : Bool) (at i : ℕ) → unspell k start at h ≡ stopped i → i < at + length h
+unspell-stops k [] start at i e = none-stops i _ e
+unspell-stops k (c ∷ []) start at i e = gave-stopped at _ (found []) (ltb (byte_for k (stands start []) (c ∷ [])) 256) i _ (omega arith) (none-stops i _) e
+unspell-stops k (c ∷ d ∷ cs) start at i e =
+    stops-two k start at i c d cs _ (k.shift (ends cs) c) (omega arith)
+    (λ p. omega (arith, unspell-stops k cs false (suc (suc at)) i p)) (λ p. omega (arith, unspell-stops k (d ∷ cs) false (suc at) i p)) e
 
 -- ---- how large
 

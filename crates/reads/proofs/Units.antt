@@ -1,6 +1,6 @@
 -- What the code finds at a place of a strip is what reading the units there says: one unit behind its gap, many like units, a mark.
 --
---   mark-small, unit-seekable  what the code asks of a description that is readable
+--   mark-few, mark-small, unit-seekable  what the code asks of a mark, and of a description that is readable
 --   mark-read       a mark, and then the rest
 --   went, unit-read a unit, and then the rest, by what is sought there
 --   Walks, walks    many units: all are passed, or the one at a place is in no row
@@ -203,7 +203,7 @@ module _ (sets : List (List ℕ)) (u : Unit) (reads : unit_reads sets u ≡ true
 
 -- ---- what the code asks
 
-mark-few : (m : Mark) → mark_reads m ≡ true → m.elements ≤ 9
+pub mark-few : (m : Mark) → mark_reads m ≡ true → m.elements ≤ 9
 mark-few m h = go (eqb m.elements 0) refl
   where
     go : (z : Bool) → eqb m.elements 0 ≡ z → m.elements ≤ 9

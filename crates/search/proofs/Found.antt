@@ -3,12 +3,14 @@
 --
 --   Bytes        each of a list is below 256; take-bytes, so are its first
 --   low_below    what elements make, the last of which fits a half-byte
+--   low-bound    k bytes make less than 256 ^ k; few-bound, four less than 2 ^ 32
 --   mark-found   a mark is there exactly if its word is seen
 --   few-rows     a readable unit has at most a hundred rows
 --   unit-found   what is found of elements is the number of the unit's row that they are, and one; 0 where they are none
 --
 -- Assumes nothing.
-use Rattle.std.proofs.Common.{◌^◌, pow-suc, ◌≡◌, refl, sym, ap, ◌∙◌, ◌≢◌, Bool, true, false, ◌&&◌, ◌||◌, List, [], ◌∷◌, ◌++◌, map, ℕ, zero, suc, ◌+◌, ◌*◌, ◌-◌, ◌/◌, ◌%◌, ◌<◌, ◌≤◌, arith, add-zero, eqb, ltb, leb, length, get_or, take, drop, length-drop, length-take, length-take-le, take-suc, take_all, get_or-take, get_or-drop, eqb-true, eq-eqb, ltb-true, ltb-false, leb-true}
+use Rattle.std.proofs.Common.{◌^◌, pow-suc, lit<, ◌≡◌, refl, sym, ap, ◌∙◌, ◌≢◌, Bool, true, false, ◌&&◌, ◌||◌, List, [], ◌∷◌, ◌++◌, map, ℕ, zero, suc, ◌+◌, ◌*◌, ◌-◌, ◌/◌, ◌%◌, ◌<◌, ◌≤◌, arith, add-zero, eqb, ltb, leb, length, get_or, take, drop, length-drop, length-take, length-take-le, take-suc, take_all, get_or-take, get_or-drop, eqb-true, eq-eqb, ltb-true, ltb-false, leb-true}
+use native.Mathlib.Nat.{pow-le-pow_right}
 use Rattle.std.proofs.lemmas.Bool.{eqb-false, not-true}
 use Rattle.std.proofs.lemmas.List.{length-map}
 use Rattle.laws.specs.Search.{pick, upto}
@@ -49,6 +51,18 @@ low_below n [] l b h = absurd (omega arith)
 low_below zero (x ∷ []) l b h = omega arith
 low_below zero (x ∷ y ∷ xs) l b h = absurd (omega arith)
 low_below (suc n) (x ∷ xs) l b h = omega (arith, b 0, low_below n xs (omega arith) (λ i. b (suc i)) h, pow-suc 256 n)
+
+first-bound : (k : ℕ) (xs : List ℕ) → Bytes xs → low (take k xs) < 256 ^ k
+first-bound zero xs b = omega arith
+first-bound (suc k) [] b = omega (arith, first-bound k [] b, pow-suc 256 k)
+first-bound (suc k) (x ∷ xs) b = omega (arith, b 0, first-bound k xs (λ i. b (suc i)), pow-suc 256 k)
+
+module _ (t : List ℕ) (b : Bytes t) where
+  pub low-bound : (k p : ℕ) → low (take k (drop p t)) < 256 ^ k
+  low-bound k p = first-bound k (drop p t) (λ i. rw (get_or-drop p t i 0) (b (p + i)))
+
+  pub few-bound : (k p : ℕ) → k ≤ 4 → low (take k (drop p t)) < 4294967296
+  few-bound k p h = omega (arith, low-bound k p, pow-le-pow_right {n = 256} (lit< tt) {i = k} {j = 4} h)
 
 -- nine elements, of which the eighth has a half-byte to spare
 nine-back : (xs : List ℕ) → length xs ≡ 9 → Bytes xs → get_or xs 7 0 < 16 → row_of 9 (word_of xs) ≡ xs

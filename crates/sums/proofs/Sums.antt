@@ -1,6 +1,8 @@
 -- The weighted sums that src/ holds, and the rules that they stand for.
 --
---   small-more    a small sum is small later on
+--   product       a weight times a byte is far from overflow
+--   small-taken   a small sum stays small with one value more; small-more, and later
+--   one_more, kept-one, kept_more, kept-two, kept-none    what is taken up by the machine's word; a small sum is kept as it is
 --   summed-append    values taken up one list behind the other
 --   state         "its state after each character is the definition's" (document 01): the weighted sum of the characters up to it, by the
 --                 weights of the rule
@@ -9,7 +11,7 @@
 --   begun-43, begun-odd, begun-even, begun-none    that sum, as the match's arms ask for it
 --
 -- Assumes nothing.
-use Rattle.std.proofs.Common.{◌≡◌, ℕ, zero, suc, ◌+◌, ◌*◌, ◌%◌, ◌<◌, ◌≤◌, true, false, ◌≢◌, ◌⊎◌, List, [], ◌∷◌, ◌++◌, reverse, length, take, sym, refl, ap, ◌∙◌, inl, inr, add-zero, add_assoc, zero-add, arith, lit≤, length-take-le}
+use Rattle.std.proofs.Common.{◌≡◌, ℕ, zero, suc, ◌+◌, ◌*◌, ◌%◌, ◌^◌, ◌<◌, ◌≤◌, true, false, ◌≢◌, ◌⊎◌, List, [], ◌∷◌, ◌++◌, reverse, length, take, sym, refl, ap, ◌∙◌, inl, inr, add-zero, add_assoc, mul-le-mul, zero-add, arith, lit≤, length-take-le}
 use native.Mathlib.Decide.{dec_lt, ℕ_discrete}
 use lib.ListN.{get_or-eq_default}
 use lib.Seq.{take-length}
@@ -22,9 +24,15 @@ use Rattle.symbologies.specs.Checks.{by43, right10, no_check}
 use Rattle.symbologies.specs.Parts.{each}
 use Rattle.symbologies.specs.Symbologies.{digits, symbologies, symbology_of}
 use Rattle.sums.specs.declared.Sum.{Sum}
-use Rattle.sums.specs.Sums.{Small, taken, summed, begun, Begins, Suits, Checks}
+use Rattle.sums.specs.Sums.{Small, Kept, wrapped, taken, summed, begun, Begins, Suits, Checks}
 
 -- ---- sums
+
+pub product : {w v : ℕ} → w ≤ 100 → v ≤ 255 → w * v ≤ 25500
+product h l = mul-le-mul h l
+
+pub small-taken : (i : ℕ) (s : Sum) (v : ℕ) → v ≤ 255 → Small i s → Small (i + 1) (taken s v)
+small-taken i s v l h = record { total = omega (arith, h.total, product h.weight l); weight = h.other; other = h.weight }
 
 pub small-more : (i j : ℕ) (s : Sum) → i ≤ j → Small i s → Small j s
 small-more i j s l h = record { total = omega (arith, h.total); weight = h.weight; other = h.other }
@@ -178,3 +186,26 @@ begins s n r e k u = go (kinds s)
     go (inl h) = rw (e, rule-43 s h.0 h.1, begun-by43 n) (sum-43 k)
     go (inr (inl h)) = by-10 h.0 h.1 (ℕ_discrete (n % 2) 1)
     go (inr (inr h)) = rw (e, rule-none s h, begun-no_check n) (sum-none k)
+
+-- ---- nothing is lost in a word
+
+pub one_more : (s : Sum) (v t : ℕ) → t ≡ (s.total + s.weight * v) % 2 ^ 64
+    → record { modulus = s.modulus; up = s.up; weight = s.other; other = s.weight; total = t } ≡ wrapped s (v ∷ [])
+one_more s v t e = rw e
+
+pub kept-one : (i : ℕ) (s r : Sum) (v : ℕ) → v ≤ 255 → i ≤ 1001 → Small i s → r ≡ wrapped s (v ∷ []) → Kept 1 i s (v ∷ []) r
+kept-one i s r v l h g e =
+    let p : s.weight * v ≤ 25500 = product g.weight l in
+    let t : (s.total + s.weight * v) % 2 ^ 64 ≡ s.total + s.weight * v = omega (arith, g.total, p) in
+    let q : r ≡ taken s v = e ∙ rw t in
+    record { is = q; small = rw q (small-taken i s v l g) }
+
+-- after one value or two, or none, there is room for two
+pub kept_more : (i : ℕ) (s r : Sum) (v : ℕ) → Kept 1 i s (v ∷ []) r → Kept 2 i s (v ∷ []) r
+kept_more i s r v k = record { is = k.is; small = small-more (i + 1) (i + 2) r (omega arith) k.small }
+
+pub kept-two : (i : ℕ) (s t r : Sum) (v w : ℕ) → Kept 1 i s (v ∷ []) t → Kept 1 (i + 1) t (w ∷ []) r → Kept 2 i s (v ∷ w ∷ []) r
+kept-two i s t r v w k l = record { is = l.is ∙ ap (λ (x : Sum). summed x (w ∷ [])) k.is; small = small-more (i + 1 + 1) (i + 2) r (omega arith) l.small }
+
+pub kept-none : (i : ℕ) (s : Sum) → Small i s → Kept 2 i s [] s
+kept-none i s h = record { is = refl; small = small-more i (i + 2) s (omega arith) h }

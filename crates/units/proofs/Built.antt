@@ -1,14 +1,14 @@
 -- A ready row is built: what its units show fits them.
 --
---   choices_of     the row that each unit shows
+--   choices_of     the row that each unit shows; fits-long, there are as many of these as units that show one
 --   Built, built    what `put_parts` asks is met, and what it gives is the strip
 --   Line          the sets and the choices of a symbology, as the code has them; starred, letters, industrial, pairs, matrix, parities, last, those
 --                 of each number
 --   few-chars     a ready row has no more characters than places; letters-in, digits5, digits13, what Codabar, Interleaved and EAN-13 ask of them
 --
 -- Assumes nothing.
-use Rattle.std.proofs.Common.{◌≡◌, refl, ◌∙◌, ◌≢◌, ◌⊎◌, inl, inr, true, List, ℕ, ◌≤◌, length}
-use Rattle.laws.specs.Units.{strip, Fits}
+use Rattle.std.proofs.Common.{◌≡◌, refl, ap, ◌∙◌, ◌≢◌, ◌⊎◌, inl, inr, true, List, [], ◌∷◌, ℕ, suc, ◌≤◌, length}
+use Rattle.laws.specs.Units.{Kind, fixed, free, strip, frees, Fits}
 use Rattle.laws.specs.Writing.{front}
 use Rattle.laws.proofs.Spelling.{Below}
 use Rattle.tables.specs.TwoOfFive.{table44, alphabet_digits}
@@ -22,6 +22,13 @@ use Rattle.shapes.specs.Sets.{sets39, sets_codabar, sets_industrial, sets_digits
 
 abbrev pub choices_of : ℕ → List ℕ → List ℕ
 choices_of s r = (symbology_of s).shows.choices r
+
+fits-long : (ks : List Kind) (cs : List ℕ) → Fits ks cs → length cs ≡ frees ks
+fits-long [] [] f = refl
+fits-long [] (c ∷ cs) f = absurd f
+fits-long (fixed r ∷ ks) cs f = fits-long ks cs f
+fits-long (free k ∷ ks) [] f = absurd f
+fits-long (free k ∷ ks) (c ∷ cs) f = ap suc (fits-long ks cs f.1)
 
 -- the sets and the choices of a symbology, as the code has them
 pub record Line (s : ℕ) (sets : List (List ℕ)) (f : List ℕ → List ℕ) : Type 0 where
