@@ -3,7 +3,7 @@
 --
 --   Why, Halts   what a call's end says: `same`, its text and the run over what is left are the run over all; `why`, how what is
 --                left begins; `within`, no more is taken than is held
---   halts        so it is for every call
+--   halts        so it is for every call; left_none, and where it ended for another reason than want of room no record is left
 --   goes_on, stops-there     the text of a call, before bytes that are still to come
 --   left_over    what is left where more is wanted
 --   full-takes   a call with room for a line takes a record before it is full
@@ -12,7 +12,7 @@
 --   loop-ends    the loop ends
 --
 -- Assumes nothing.
-use Rattle.std.proofs.Common.{◌≡◌, refl, sym, ap, ◌∙◌, Bool, true, false, ◌⊎◌, inl, inr, List, [], ◌∷◌, ◌++◌, append-nil, append_assoc, ℕ, zero, suc, ◌+◌, ◌-◌, ◌<◌, ◌≤◌, arith, leb, ltb, length, get_or, take, drop, length-append, length-drop, drop-drop, leb-false, le-leb, le-ltb}
+use Rattle.std.proofs.Common.{◌≡◌, ◌≢◌, refl, sym, ap, ◌∙◌, Bool, true, false, ◌⊎◌, inl, inr, List, [], ◌∷◌, ◌++◌, append-nil, append_assoc, ℕ, zero, suc, ◌+◌, ◌-◌, ◌<◌, ◌≤◌, arith, leb, ltb, length, get_or, take, drop, length-append, length-drop, drop-drop, leb-false, le-leb, le-ltb, Some}
 use lib.ListN.{get_or-append}
 use Rattle.std.proofs.lemmas.List.{drop-append-le, take-append-le}
 use Rattle.laws.specs.Search.{pick}
@@ -22,6 +22,7 @@ use Rattle.jobs.specs.declared.run.Ended.{Ended}
 use Rattle.jobs.specs.declared.run.Ended.TheVariants.{More, Full, Stopped}
 use Rattle.jobs.specs.Kinds.{field_of, known, body_of}
 use Rattle.jobs.specs.Run.{Job, Front, nothing, unknown, cut, whole, job_of, front_of, counted, line_for, drawn_for, run_from, run, Held, ends, behind, held_run}
+use Rattle.jobs.specs.Found.{why_none}
 use Rattle.jobs.specs.Loop.{joined, closing, Prints, full, more, over, stop}
 use Rattle.jobs.proofs.Bodies.{body-field, body-most}
 use Rattle.jobs.proofs.Runs.{whole_is, whole-rest, shorter, run_step, held-step}
@@ -117,6 +118,16 @@ halts_by (suc n) m r d bytes h =
 
 pub halts : (room records drawn : ℕ) (bytes : List ℕ) → Halts records drawn bytes (held_run room records drawn bytes)
 halts m r d bytes = halts_by (suc (length bytes)) m r d bytes (omega arith)
+
+left_by : (why : Ended) (left : List ℕ) → why ≢ Full → Why why left → why_none (front_of left) ≡ Some why
+left_by More left n (inl e) = rw e
+left_by More left n (inr e) = rw e
+left_by Full left n w = absurd (n refl)
+left_by Stopped left n e = rw e
+
+pub left_none : (room records drawn : ℕ) (bytes : List ℕ) → let h : Held = held_run room records drawn bytes in
+    h.ended ≢ Full → why_none (front_of (drop h.taken bytes)) ≡ Some h.ended
+left_none m r d bytes n = left_by _ _ n (halts m r d bytes).why
 
 -- ---- what is printed, whatever bytes are still to come
 

@@ -6,8 +6,10 @@
 // line.
 #![tactic(auto)]
 
-ghost use Rattle.std.specs.Prelude.{◌≡◌, ◌+◌, ◌≤◌, ◌<◌, length, IfOk};
+ghost use Rattle.std.specs.Prelude.{◌≡◌, ◌≢◌, ◌+◌, ◌≤◌, ◌<◌, length, drop, IfOk, Some};
 ghost use Rattle.lines.specs.Sizes.{longest_line};
+ghost use Rattle.jobs.specs.Run.{front_of};
+ghost use Rattle.jobs.specs.Found.{why_none};
 ghost use Rattle.jobs.specs.declared.run.Ended.TheVariants.{Full};
 
 use jobs::{Ended, Run};
@@ -74,10 +76,11 @@ fn read_behind(rt: &HostRuntime, held: &mut [u8], have: usize) -> Result<usize, 
 }
 
 // Prints the whole records at the front of the held bytes, a roomful of lines at a time: what the last roomful answered, with all
-// that was taken.
+// that was taken. No whole record is left behind that, and how what is left begins is why the run ended.
 fn print_held(rt: &HostRuntime, held: &[u8], before: Run, room: &mut [u8]) -> Result<Run, Failure>
     requires { longest_line ≤ length room.old }
-    ensures { IfOk result (λ run. run.taken ≤ length held.now) }
+    ensures within { IfOk result (λ run. run.taken ≤ length held.now) }
+    ensures left { IfOk result (λ run. why_none (front_of (drop run.taken held.now)) ≡ Some run.ended) }
 {
     let mut taken = 0;
     let mut run = before;
@@ -96,6 +99,7 @@ fn print_some(rt: &HostRuntime, held: &[u8], before: Run, room: &mut [u8]) -> Re
     requires { longest_line ≤ length room.old }
     ensures within { IfOk result (λ run. run.taken ≤ length held.now) }
     ensures full_took { IfOk result (λ run. run.ended ≡ Full → 0 < run.taken) }
+    ensures left { IfOk result (λ run. run.ended ≢ Full → why_none (front_of (drop run.taken held.now)) ≡ Some run.ended) }
 {
     let run = jobs::run_held(held, before.records, before.drawn, room);
     print(rt, &room[..run.written])?;
