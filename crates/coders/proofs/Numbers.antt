@@ -2,6 +2,7 @@
 --
 --   others    the coder of every other number
 --   as-drawn, as-for, as-shift    what is drawn or found at a place, and what begins a pair, is by the symbology of `drawn_as`, in mode 0
+--   itself, raw    which symbology that is: but for full ASCII the own one; where full ASCII's is not 2, Code 39
 --   drawn-first, drawn-full, drawn-third, drawn-others    what the four coders draw
 --   alone-first, alone-full, alone-third, alone-others    the byte that draws a character alone; out-third, none at another place of Codabar
 --   told      whether there is one
@@ -84,6 +85,17 @@ drawn-same s m p b = go (ℕ_discrete s 2)
 
 pub as-drawn : (s m t : ℕ) (p : Place) (b : ℕ) → t ≡ drawn_as s m p.last → ((symbology_of t).coder 0).drawn p b ≡ ((symbology_of s).coder m).drawn p b
 as-drawn s m t p b e = rw e (drawn-same s m p b)
+
+pub itself : (s m : ℕ) (last : Bool) → (s ≡ 2 → ⊥) → s ≡ drawn_as s m last
+itself s m last n = rw (ne_eqb s 2 n)
+
+raw-by : (t : ℕ) (b last : Bool) → t ≡ pick b (pick last 1 2) 2 → (t ≡ 2 → ⊥) → t ≡ 1
+raw-by t true true e n = e
+raw-by t true false e n = absurd (n e)
+raw-by t false last e n = absurd (n e)
+
+pub raw : (s m t : ℕ) (last : Bool) → s ≡ 2 → t ≡ drawn_as s m last → (t ≡ 2 → ⊥) → t ≡ 1
+raw s m t last h e n = raw-by t (eqb m 1) last (rw h at e) n
 
 pub as-for : (s m t : ℕ) (p : Place) (item : List ℕ) → t ≡ drawn_as s m p.last → below 256 (byte_for ((symbology_of t).coder 0) p item) ≡ below 256 (byte_for ((symbology_of s).coder m) p item)
 as-for s m t p item e = ap (below 256) (rw e (for-same ((symbology_of (drawn_as s m p.last)).coder 0) ((symbology_of s).coder m) p p item (drawn-same s m p)))

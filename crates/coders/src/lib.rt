@@ -67,12 +67,14 @@ fn is_placed(end: bool, value: u8) -> bool
 }
 
 // What a byte draws.
+// By the symbology, and by `drawn_as` for full ASCII alone: the symbology is the same for a whole label, and who stands at a place is not.
 pub fn drawn(symbology: u8, mode: u8, first: bool, last: bool, byte: u8) -> Piece
     ensures { piece_list result ≡ ((symbology_of symbology).coder mode).drawn (record { first = first; last = last }) byte }
 {
-    match drawn_as(symbology, mode, last) {
+    match symbology {
         1 => plain(tables::code39::value(byte)),
-        2 => full_ascii::drawn(byte),
+        2 if drawn_as(symbology, mode, last) == 2 => full_ascii::drawn(byte),
+        2 => plain(tables::code39::value(byte)),
         3 => {
             let end = is_end(first, last);
             plain(tables::codabar::value(byte).filter(|&value| is_placed(end, value)))

@@ -17,11 +17,13 @@ pub fn push(row: &mut Row, value: u8)
     requires { row.old.len < 999 }
     ensures { row.new ≡ pushed row.old value }
 {
+    // In a local, since a length that is read again behind the store to `codes` makes each character wait for memory (docs/SPEED.md).
+    let len = row.len;
     // Stays an `if`: tried with `get_mut`, the proof did not close, since what it wrote of an array is not known.
-    if row.len < PLACES {
-        row.codes[row.len] = value;
+    if len < PLACES {
+        row.codes[len] = value;
     }
-    row.len += 1;
+    row.len = len + 1;
 }
 
 // A piece's characters behind those of a row.
