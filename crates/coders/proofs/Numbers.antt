@@ -137,6 +137,9 @@ module _ (t : ℕ) (p : Place) (b : ℕ) (o : Option ℕ) where
   unfolding plain alphabet_digits table44
   drawn-others x y z h = rw (others t 0 x y z, h) (listed-some _ _)
 
+pub first-by : {t : ℕ} (b : ℕ) (p : Place) {o : Option ℕ} (xs : List ℕ) → xs ≡ listed o → t ≡ 1 → o ≡ below 43 (value_of alphabet39 b) → xs ≡ ((symbology_of t).coder 0).drawn p b
+first-by {t} b p {o} xs r e h = r ∙ drawn-first t p b o e h
+
 pub drawn-full : (t : ℕ) (p : Place) (b : ℕ) → t ≡ 2 → full_coder.drawn edge b ≡ ((symbology_of t).coder 0).drawn p b
 unfolding full_coder
 drawn-full t p b e = rw (full-coder t 0 e)

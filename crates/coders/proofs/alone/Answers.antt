@@ -1,6 +1,6 @@
 -- `alone` finds the byte that draws a character: each arm is one of the four coders, by the symbology of `drawn_as`.
 -- Assumes nothing.
-use Rattle.std.proofs.Common.{sym, ◌∙◌, rules}
+use Rattle.std.proofs.Common.{sym, ◌∙◌, rules, tests}
 use Rattle.coders.proofs.Numbers.{as-for, alone-first, alone-full, alone-third, out-third, alone-others}
 use Rattle.coders.proofs.alone.Goals as goal
 
@@ -21,4 +21,4 @@ returns-else-is_placed c =
 
 pub returns-in_default : goal.returns-in_default
 returns-in_default c =
-    alone-others _ _ _ _ (search rules) (search rules) (search rules) c.byte-in_default.ensures ∙ as-for _ _ _ _ _ c.drawn_as.ensures
+    alone-others _ _ _ _ (search rules) (search rules) (search rules) (search (rules, tests)) ∙ as-for _ _ _ _ _ c.drawn_as.ensures

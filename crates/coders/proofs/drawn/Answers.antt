@@ -3,22 +3,18 @@
 use Rattle.std.proofs.Common.{◌≡◌, ◌∙◌, rules, tests, arith}
 use Rattle.std.proofs.lemmas.Map.Entries.{option_filter}
 use Rattle.symbologies.specs.Coders.{placed}
-use Rattle.coders.proofs.Numbers.{as-drawn, itself, raw, drawn-first, drawn-full, drawn-third, drawn-others}
+use Rattle.coders.proofs.Numbers.{as-drawn, itself, raw, first-by, drawn-full, drawn-third, drawn-others}
 use Rattle.coders.proofs.drawn.Goals as goal
 
 pub returns-in-1 : goal.returns-in-1
-returns-in-1 c =
-    c.plain.ensures
-    ∙ drawn-first _ _ _ _ c.in-1.is c.value.ensures
-    ∙ as-drawn _ _ _ _ _ (itself _ _ _ (λ q. omega (arith, c.in-1.is, q)))
+returns-in-1 c = first-by c.args.byte _ _ c.plain.ensures c.in-1.is (search (rules, tests)) ∙ as-drawn _ _ _ _ _ (itself _ _ _ (λ q. omega (arith, c.in-1.is, q)))
 
 pub returns-in-2 : goal.returns-in-2
 returns-in-2 c = c.drawn.ensures ∙ drawn-full _ _ _ c.if-drawn_as-eq2.true ∙ as-drawn _ _ _ _ _ c.drawn_as.ensures
 
 pub returns-in-2-2 : goal.returns-in-2-2
 returns-in-2-2 c =
-    c.plain-in-2-2.ensures
-    ∙ drawn-first _ _ _ _ (raw _ _ _ _ c.in-2.is c.drawn_as.ensures c.if-drawn_as-eq2.false) c.value-in-2-2.ensures
+    first-by c.args.byte _ _ c.plain-in-2-2.ensures (raw _ _ _ _ c.in-2.is c.drawn_as.ensures c.if-drawn_as-eq2.false) (search (rules, tests))
     ∙ as-drawn _ _ _ _ _ c.drawn_as.ensures
 
 pub returns-in-3 : goal.returns-in-3
