@@ -3,7 +3,7 @@
 --   others    the coder of every other number
 --   as-drawn, as-for, as-shift    what is drawn or found at a place, and what begins a pair, is by the symbology of `drawn_as`, in mode 0
 --   itself, raw    which symbology that is: but for full ASCII the own one; where full ASCII's is not 2, Code 39
---   drawn-first, drawn-full, drawn-third, drawn-others    what the four coders draw
+--   drawn-first, drawn-full, drawn-third, drawn-others    what the four coders draw; first-by, the first of them for characters that are listed
 --   alone-first, alone-full, alone-third, alone-others    the byte that draws a character alone; out-third, none at another place of Codabar
 --   told      whether there is one
 --   shift-low, shift-mid, shift-high    /, + and % begin a pair of full ASCII, and no other character
